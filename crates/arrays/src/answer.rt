@@ -1,5 +1,5 @@
 // What an array answers to read, program and erase.
-#[derive(Clone, Copy, PartialEq, Eq, Debug)]
+#[derive(Clone, Copy, PartialEq)]
 pub enum Answer {
     // the call was carried out
     Done,
