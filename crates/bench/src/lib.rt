@@ -1,0 +1,4 @@
+pub mod calibration;
+pub mod compare;
+pub mod steps;
+pub mod words;

@@ -1,0 +1,119 @@
+// One task at a bench array, from its first step to its last, printed as a report that a technician can read.
+use arrays::array::Array;
+use arrays::dump::Dump;
+use arrays::dump::DumpArray;
+use arrays::memory::Memory;
+use arrays::memory::MemoryArray;
+use bench::calibration::Calibration;
+use bench::compare::Test;
+use bench::steps::program_and_read;
+use bench::steps::wear_out;
+use bench::words::word;
+use std::error::AnyError;
+use std::io;
+
+const BLOCKS: usize = 4;
+
+const PAGES: usize = 2;
+
+const LIFE: u32 = 3;
+
+const PAGE: usize = 2112;
+
+const BYTES: usize = 16_912;
+
+// The block that is worn out, and the one that takes its place.
+const FIRST: usize = 1;
+
+const SECOND: usize = 2;
+
+// The calibration of the bench, and one that is programmed over it without an erase.
+const GOOD: Calibration = Calibration {
+    zero: 1_250,
+    span: 48_000,
+};
+
+const HASTY: Calibration = Calibration {
+    zero: 1_244,
+    span: 50_000,
+};
+
+// Programs page 0 of a block and prints what it holds then, beside what it held.
+fn program(
+    rt: &LibcRuntime,
+    array: &mut Memory<'_>,
+    block: usize,
+    sent: &[u8],
+    held: &[u8],
+    read: &mut [u8],
+) -> io::Result<()> {
+    let (programmed, shown) = program_and_read(array, block, 0, sent, read);
+    println!(rt, "program block {block}, page 0: {}", word(programmed))?;
+    println!(rt, "read it back: {}", word(shown))?;
+    match Calibration::in_page(read) {
+        Some(found) => println!(rt, "  zero {}, span {}", found.zero, found.span)?,
+        None => println!(rt, "  no calibration")?,
+    }
+    let equal = Test::Equal.count(sent, read);
+    let risen = Test::Risen.count(held, read);
+    println!(
+        rt,
+        "  {equal} of {PAGE} bytes as sent; a bit rose in {risen}"
+    )
+}
+
+// Erases a block until it is worn, and shows that it takes nothing more.
+fn wear(rt: &LibcRuntime, array: &mut Memory<'_>, block: usize, sent: &[u8]) -> io::Result<()> {
+    let erases = wear_out(array, block, 100);
+    let then = word(array.erase(block));
+    println!(rt, "erase block {block}: done {erases} times, then {then}")?;
+    println!(
+        rt,
+        "program block {block}, page 0: {}",
+        word(array.program(block, 0, sent))
+    )?;
+    println!(
+        rt,
+        "program block {BLOCKS}, page 0: {}",
+        word(array.program(BLOCKS, 0, sent))
+    )
+}
+
+// Reads a page of the same bytes through a dump array.
+fn dump(
+    rt: &LibcRuntime,
+    bytes: &[u8],
+    block: usize,
+    sent: &[u8],
+    read: &mut [u8],
+) -> io::Result<()> {
+    let mut dump = Dump::new(bytes, BLOCKS, PAGES);
+    let shown = word(dump.read(block, 0, read));
+    println!(rt, "read block {block}, page 0 through a dump: {shown}")?;
+    let programmed = word(dump.program(block, 0, sent));
+    println!(rt, "program it through the dump: {programmed}")?;
+    let equal = Test::Equal.count(sent, read);
+    println!(rt, "{equal} of {PAGE} bytes equal")
+}
+
+fn main(rt: LibcRuntime) -> Result<(), AnyError> {
+    let heap = rt.alloc();
+    let blank = vec![in heap; 0xffu8; PAGE]?;
+    let mut sent = vec![in heap; 0xffu8; PAGE]?;
+    let mut again = vec![in heap; 0xffu8; PAGE]?;
+    let mut read = vec![in heap; 0u8; PAGE]?;
+    let mut over = vec![in heap; 0u8; PAGE]?;
+    let mut bytes = vec![in heap; 0u8; BYTES]?;
+    GOOD.stamp(&mut sent);
+    HASTY.stamp(&mut again);
+    let mut array = Memory::new(&mut bytes, BLOCKS, PAGES);
+    array.renew(LIFE);
+    let (n, p) = (array.blocks(), array.pages());
+    println!(rt, "new array: {n} blocks of {p} pages, life {LIFE}")?;
+    program(&rt, &mut array, FIRST, &sent, &blank, &mut read)?;
+    program(&rt, &mut array, FIRST, &again, &read, &mut over)?;
+    wear(&rt, &mut array, FIRST, &sent)?;
+    program(&rt, &mut array, SECOND, &sent, &blank, &mut over)?;
+    dump(&rt, &bytes, SECOND, &sent, &mut read)?;
+    Ok(())
+}
