@@ -1,0 +1,6 @@
+#[cfg(test)]
+mod expected;
+#[cfg(test)]
+mod seen;
+#[cfg(test)]
+mod tests;
