@@ -38,7 +38,7 @@ fn erase_once<A: Array>(array: &mut A, block: usize) -> bool
 }
 
 // Erases a block of any array until it is worn, at most `most` times, and says how many erases were done.
-pub fn wear_out<A: Array>(array: &mut A, block: usize, most: u32) -> u32
+fn erase_up_to<A: Array>(array: &mut A, block: usize, most: u32) -> u32
     ensures count { λ r. ⌜ r ≡ erases-done (A·Array .meaning (now (array .entry))) block most ⌝ }
     ensures after { λ r. ⌜ A·Array .meaning (now (array .exit)) ≡ erase-times r (A·Array .meaning (now (array .entry))) block ⌝ }
 {
@@ -48,4 +48,12 @@ pub fn wear_out<A: Array>(array: &mut A, block: usize, most: u32) -> u32
         }
     }
     most
+}
+
+// The same with the largest number of erases that can be counted, which is the largest life of a memory array.
+pub fn wear_out<A: Array>(array: &mut A, block: usize) -> u32
+    ensures count { λ r. ⌜ r ≡ erases-done (A·Array .meaning (now (array .entry))) block 4294967295 ⌝ }
+    ensures after { λ r. ⌜ A·Array .meaning (now (array .exit)) ≡ erase-times r (A·Array .meaning (now (array .entry))) block ⌝ }
+{
+    erase_up_to(array, block, u32::MAX)
 }

@@ -9,6 +9,9 @@ use bench::compare::Test;
 use bench::steps::program_and_read;
 use bench::steps::wear_out;
 use bench::words::word;
+use linked::linked::Linked;
+use linked::linked::LinkedArray;
+use links::table::Table;
 use std::error::AnyError;
 use std::io;
 
@@ -22,7 +25,7 @@ const PAGE: usize = 2112;
 
 const BYTES: usize = 16_912;
 
-// The block that is worn out, and the one that takes its place.
+// The address whose block is worn out, and the one that it is exchanged with.
 const FIRST: usize = 1;
 
 const SECOND: usize = 2;
@@ -39,16 +42,16 @@ const HASTY: Calibration = Calibration {
 };
 
 // Programs page 0 of a block and prints what it holds then, beside what it held.
-fn program(
+fn program<A: Array>(
     rt: &LibcRuntime,
-    array: &mut Memory<'_>,
+    array: &mut A,
     block: usize,
     sent: &[u8],
     held: &[u8],
     read: &mut [u8],
 ) -> io::Result<()> {
     let (programmed, shown) = program_and_read(array, block, 0, sent, read);
-    println!(rt, "program block {block}, page 0: {}", word(programmed))?;
+    println!(rt, "program address {block}, page 0: {}", word(programmed))?;
     println!(rt, "read it back: {}", word(shown))?;
     match Calibration::in_page(read) {
         Some(found) => println!(rt, "  zero {}, span {}", found.zero, found.span)?,
@@ -64,19 +67,39 @@ fn program(
 
 // Erases a block until it is worn, and shows that it takes nothing more.
 fn wear(rt: &LibcRuntime, array: &mut Memory<'_>, block: usize, sent: &[u8]) -> io::Result<()> {
-    let erases = wear_out(array, block, 100);
+    let erases = wear_out(array, block);
     let then = word(array.erase(block));
-    println!(rt, "erase block {block}: done {erases} times, then {then}")?;
     println!(
         rt,
-        "program block {block}, page 0: {}",
+        "erase address {block}: done {erases} times, then {then}"
+    )?;
+    println!(
+        rt,
+        "program address {block}, page 0: {}",
         word(array.program(block, 0, sent))
     )?;
     println!(
         rt,
-        "program block {BLOCKS}, page 0: {}",
+        "program address {BLOCKS}, page 0: {}",
         word(array.program(BLOCKS, 0, sent))
     )
+}
+
+// Exchanges two addresses, and prints which block the first one reaches then.
+fn exchange<A: Array>(
+    rt: &LibcRuntime,
+    array: &mut Linked<A>,
+    first: u16,
+    second: u16,
+) -> io::Result<()> {
+    let done = if array.swap(first, second) {
+        "done"
+    } else {
+        "refused"
+    };
+    println!(rt, "swap addresses {first} and {second}: {done}")?;
+    let block = array.table.reach(BLOCKS, usize::from(first));
+    println!(rt, "  address {first} reaches block {block}")
 }
 
 // Reads a page of the same bytes through a dump array.
@@ -109,11 +132,13 @@ fn main(rt: LibcRuntime) -> Result<(), AnyError> {
     let mut array = Memory::new(&mut bytes, BLOCKS, PAGES);
     array.renew(LIFE);
     let (n, p) = (array.blocks(), array.pages());
-    println!(rt, "new array: {n} blocks of {p} pages, life {LIFE}")?;
+    println!(rt, "new array: {n} blocks of {p} pages, life {LIFE} each")?;
     program(&rt, &mut array, FIRST, &sent, &blank, &mut read)?;
     program(&rt, &mut array, FIRST, &again, &read, &mut over)?;
     wear(&rt, &mut array, FIRST, &sent)?;
-    program(&rt, &mut array, SECOND, &sent, &blank, &mut over)?;
+    let mut array = Linked::new(array, Table::new());
+    exchange(&rt, &mut array, FIRST as u16, SECOND as u16)?;
+    program(&rt, &mut array, FIRST, &sent, &blank, &mut over)?;
     dump(&rt, &bytes, SECOND, &sent, &mut read)?;
     Ok(())
 }

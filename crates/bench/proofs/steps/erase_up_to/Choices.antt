@@ -1,6 +1,6 @@
 use mathlib.Core.Path.{_≡_}
 use Rattle.bench.specs.Steps.{erase-times, erases-done}
-use Rattle.bench.proofs.steps.wear_out.Given as given
+use Rattle.bench.proofs.steps.erase_up_to.Given as given
 
 -- so many erases were tried, and all of them were done
 abbrev pub Inv-loop-done : given.InvT-loop-done

@@ -6,7 +6,7 @@ use Rattle.std.proofs.shelf.Tests.{cond-false}
 use Rattle.arrays.specs.Store.{Store, has-block, lives, erased, after-erase}
 use Rattle.bench.specs.Steps.{erase-times, erases-done}
 use Rattle.bench.proofs.Erases.{one-more, no-more}
-use Rattle.bench.proofs.steps.wear_out.Needs as need
+use Rattle.bench.proofs.steps.erase_up_to.Needs as need
 
 pub returns-then-not-erase-once : need.returns-then-not-erase-once
 returns-then-not-erase-once g c =

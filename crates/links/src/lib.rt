@@ -1,0 +1,4 @@
+mod entries;
+pub mod entry;
+pub mod swap;
+pub mod table;

@@ -1,0 +1,4 @@
+#[cfg(test)]
+mod linked_tests;
+#[cfg(test)]
+mod table_tests;
