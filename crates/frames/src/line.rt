@@ -27,7 +27,7 @@ pub enum Count {
 }
 
 impl Count {
-    pub fn allows(self, sent: usize) -> bool
+    pub(crate) fn allows(self, sent: usize) -> bool
         ensures answer { λ r. ⌜ r ≡ allowed self sent ⌝ }
         ensures least { λ r. ⌜ (T r → least-sent self ≤ sent) ⌝ }
     {

@@ -54,7 +54,7 @@ fn among(lines: &[Line], code: u8) -> Option<Line>
 }
 
 // The line of a code, if the code is listed.
-pub fn find(code: u8) -> Option<Line>
+pub(crate) fn find(code: u8) -> Option<Line>
     ensures line { λ r. ⌜ r ≡ line-of code ⌝ }
     ensures covered { λ r. ⌜ Covered r ⌝ }
 {
