@@ -17,9 +17,7 @@ pub(crate) fn and_into(page: &mut [u8], bytes: &[u8])
 pub(crate) fn fill(part: &mut [u8], value: u8)
     ensures { λ _. ⌜ now (part .exit) ≡ replicate (length (now (part .entry))) value ⌝ }
 {
-    for b in part.iter_mut() {
-        *b = value;
-    }
+    part.fill(value);
 }
 
 // Copies `bytes` over `area`, which is as long.

@@ -1,8 +1,9 @@
 ghost use mathlib.Core.Path.{_≡_};
 ghost use mathlib.Core.Bool.{true};
 ghost use denote.Ref.{now};
-ghost use Rattle.arrays.specs.Store.{Shape};
-ghost use Rattle.links.specs.Links.{may-swap, after-swap};
+ghost use lib.ListN.{length};
+ghost use Rattle.arrays.specs.Store.{Shape, present, has-block, lives, write-answer, after-program, after-erase};
+ghost use Rattle.links.specs.Links.{reach, may-swap, after-swap};
 ghost use Rattle.links.specs.LinkLaws.{Turned};
 ghost use Rattle.linked.specs.Shown.{shown, Through};
 use arrays::answer::Answer;
@@ -52,7 +53,8 @@ impl<A: Array> Linked<A> {
 
     // The block of `array` that the address reaches: a call there is what the call at the address should be.
     fn reached(&self, address: usize) -> usize
-        ensures { λ r. ⌜ Through (A·Array .meaning) (now (self .entry) .table .entries) (now (self .entry) .array) address r ⌝ }
+        ensures block { λ r. ⌜ r ≡ reach (A·Array .meaning (now (self .entry) .array) .blocks) (now (self .entry) .table .entries) address ⌝ }
+        ensures through { λ r. ⌜ Through (A·Array .meaning) (now (self .entry) .table .entries) (now (self .entry) .array) address r ⌝ }
     {
         let n = self.size();
         self.table.reach(n, address)
@@ -77,12 +79,22 @@ pub impl<A: Array> Array for Linked<A> as LinkedArray {
         self.array.read(reached, page, area)
     }
 
-    fn program(&mut self, block: usize, page: usize, bytes: &[u8]) -> Answer {
+    fn program(&mut self, block: usize, page: usize, bytes: &[u8]) -> Answer
+        ensures answer { λ r. ⌜ r ≡ write-answer (present (shown (now (self .entry) .table .entries) (A·Array .meaning (now (self .entry) .array))) block page (length (now (bytes .entry)))) (lives (shown (now (self .entry) .table .entries) (A·Array .meaning (now (self .entry) .array))) block) ⌝ }
+        ensures after { λ _. ⌜ shown (now (self .exit) .table .entries) (A·Array .meaning (now (self .exit) .array)) ≡ after-program (shown (now (self .entry) .table .entries) (A·Array .meaning (now (self .entry) .array))) block page (now (bytes .entry)) ⌝ }
+        ensures kept { λ _. ⌜ A·Array .kept (now (self .entry) .array) (now (self .exit) .array) × (now (self .exit) .table ≡ now (self .entry) .table) ⌝ }
+        ensures below { λ _. ⌜ A·Array .meaning (now (self .exit) .array) ≡ after-program (A·Array .meaning (now (self .entry) .array)) (reach (A·Array .meaning (now (self .entry) .array) .blocks) (now (self .entry) .table .entries) block) page (now (bytes .entry)) ⌝ }
+    {
         let reached = self.reached(block);
         self.array.program(reached, page, bytes)
     }
 
-    fn erase(&mut self, block: usize) -> Answer {
+    fn erase(&mut self, block: usize) -> Answer
+        ensures answer { λ r. ⌜ r ≡ write-answer (has-block (shown (now (self .entry) .table .entries) (A·Array .meaning (now (self .entry) .array))) block) (lives (shown (now (self .entry) .table .entries) (A·Array .meaning (now (self .entry) .array))) block) ⌝ }
+        ensures after { λ _. ⌜ shown (now (self .exit) .table .entries) (A·Array .meaning (now (self .exit) .array)) ≡ after-erase (shown (now (self .entry) .table .entries) (A·Array .meaning (now (self .entry) .array))) block ⌝ }
+        ensures kept { λ _. ⌜ A·Array .kept (now (self .entry) .array) (now (self .exit) .array) × (now (self .exit) .table ≡ now (self .entry) .table) ⌝ }
+        ensures below { λ _. ⌜ A·Array .meaning (now (self .exit) .array) ≡ after-erase (A·Array .meaning (now (self .entry) .array)) (reach (A·Array .meaning (now (self .entry) .array) .blocks) (now (self .entry) .table .entries) block) ⌝ }
+    {
         let reached = self.reached(block);
         self.array.erase(reached)
     }
