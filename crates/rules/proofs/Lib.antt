@@ -1,0 +1,6 @@
+pub mod Stores
+pub mod Swaps
+pub mod Agree
+pub mod Taking
+pub mod Stepping
+pub mod Runs

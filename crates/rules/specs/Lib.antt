@@ -1,0 +1,14 @@
+pub mod Outcomes
+pub mod Registers
+pub mod FlagChanges
+pub mod Seal
+pub mod Rows
+pub mod Chip
+pub mod Asked
+pub mod Refusals
+pub mod Operations
+pub mod Effects
+pub mod Calls
+pub mod Book
+pub mod Law
+pub mod Measured

@@ -1,0 +1,4 @@
+pub mod flags;
+pub mod law;
+pub mod operation;
+pub mod refusal;
