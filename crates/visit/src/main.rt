@@ -9,6 +9,7 @@ use bench::compare::Test;
 use bench::steps::program_and_read;
 use bench::steps::wear_out;
 use bench::words::word;
+use card::card::Card;
 use linked::linked::Linked;
 use linked::linked::LinkedArray;
 use links::table::Table;
@@ -24,6 +25,8 @@ const LIFE: u32 = 3;
 const PAGE: usize = 2112;
 
 const BYTES: usize = 16_912;
+
+const OTP_BYTES: usize = 33_796;
 
 // The address whose block is worn out, and the one that it is exchanged with.
 const FIRST: usize = 1;
@@ -119,6 +122,33 @@ fn dump(
     println!(rt, "{equal} of {PAGE} bytes equal")
 }
 
+// Sends to a card, with /WP high and no area, and prints what becomes of it.
+fn send<M: Array, O: Array>(
+    rt: &LibcRuntime,
+    card: &mut Card<M, O>,
+    name: &str,
+    sent: &[u8],
+) -> io::Result<()> {
+    let (outcome, _) = card.transact(sent, false, &mut []);
+    println!(rt, "{name}: outcome {}", outcome.number())
+}
+
+// Makes a new card over the array, under the law of sealed calibration, and tries to write to its sealed rows.
+fn seal<M: Array, O: Array>(rt: &LibcRuntime, main: M, otp: O) -> io::Result<()>
+where
+    M: Drop,
+    O: Drop,
+{
+    let mut card = Card::new(main, otp);
+    send(rt, &mut card, "new card, write enable", &[0x06])?;
+    send(
+        rt,
+        &mut card,
+        "program row 4, which is sealed",
+        &[0x10, 0, 0, 4],
+    )
+}
+
 fn main(rt: LibcRuntime) -> Result<(), AnyError> {
     let heap = rt.alloc();
     let blank = vec![in heap; 0xffu8; PAGE]?;
@@ -140,5 +170,8 @@ fn main(rt: LibcRuntime) -> Result<(), AnyError> {
     exchange(&rt, &mut array, FIRST as u16, SECOND as u16)?;
     program(&rt, &mut array, FIRST, &sent, &blank, &mut over)?;
     dump(&rt, &bytes, SECOND, &sent, &mut read)?;
+    let mut otp = vec![in heap; 0u8; OTP_BYTES]?;
+    let main = Memory::new(&mut bytes, BLOCKS, PAGES);
+    seal(&rt, main, Memory::new(&mut otp, 1, 16))?;
     Ok(())
 }
