@@ -157,6 +157,7 @@ fn main(rt: LibcRuntime) -> Result<(), AnyError> {
     let mut read = vec![in heap; 0u8; PAGE]?;
     let mut over = vec![in heap; 0u8; PAGE]?;
     let mut bytes = vec![in heap; 0u8; BYTES]?;
+    let mut otp = vec![in heap; 0u8; OTP_BYTES]?;
     GOOD.stamp(&mut sent);
     HASTY.stamp(&mut again);
     let mut array = Memory::new(&mut bytes, BLOCKS, PAGES);
@@ -169,9 +170,8 @@ fn main(rt: LibcRuntime) -> Result<(), AnyError> {
     let mut array = Linked::new(array, Table::new());
     exchange(&rt, &mut array, FIRST as u16, SECOND as u16)?;
     program(&rt, &mut array, FIRST, &sent, &blank, &mut over)?;
-    dump(&rt, &bytes, SECOND, &sent, &mut read)?;
-    let mut otp = vec![in heap; 0u8; OTP_BYTES]?;
     let main = Memory::new(&mut bytes, BLOCKS, PAGES);
     seal(&rt, main, Memory::new(&mut otp, 1, 16))?;
+    dump(&rt, &bytes, SECOND, &sent, &mut read)?;
     Ok(())
 }
