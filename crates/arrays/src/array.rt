@@ -3,9 +3,6 @@ ghost use Rattle.arrays.specs.Store.{Store, Shape, present, has_block, lives, re
 
 use crate::answer::Answer;
 
-// The bytes of a page.
-pub const PAGE: usize = 2112;
-
 // The five calls of an array. A kind of array gives its meaning, and shows for each call what it answers and what it leaves.
 pub trait Array {
     // N, P, the pages and the lives, as a value

@@ -3,9 +3,9 @@ ghost use Rattle.arrays.specs.Store.{Shape, present, lives, write_answer};
 ghost use Rattle.arrays.specs.Kinds.{in_dump};
 
 use crate::answer::Answer;
-use crate::array::{Array, PAGE};
+use crate::array::Array;
 use crate::bytes::copy;
-use crate::layout::{Layout, are_bytes};
+use crate::layout::{Layout, PAGE, are_bytes};
 
 // A dump array has the layout of a memory array, held for reading, and each of its lives counts as 0.
 #[derive(Drop)]

@@ -1,9 +1,9 @@
 ghost use Rattle.std.specs.Prelude.{◌≡◌, ℕ, ◌+◌, ◌*◌, ◌<◌, ◌≤◌, length as count, if◌then◌else◌, slice_index};
 ghost use Rattle.arrays.specs.Layout.{fits as fitting, at_page, at_block, number};
 
-use crate::array::PAGE;
+// The bytes of a page, and of a block's life.
+pub(crate) const PAGE: usize = 2112;
 
-// The bytes of a block's life.
 pub(crate) const LIFE: usize = 4;
 
 const MOST_BLOCKS: usize = 1024;

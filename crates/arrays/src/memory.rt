@@ -3,9 +3,9 @@ ghost use Rattle.arrays.specs.Store.{Shape, present, programmed, blanked, with_l
 ghost use Rattle.arrays.specs.Kinds.{in_memory, SamePlace};
 
 use crate::answer::Answer;
-use crate::array::{Array, PAGE};
+use crate::array::Array;
 use crate::bytes::{and_into, copy, fill};
-use crate::layout::{LIFE, Layout, are_bytes, number_in};
+use crate::layout::{LIFE, Layout, PAGE, are_bytes, number_in};
 
 // A memory array stands on writable bytes: N lives of four bytes each, high byte first, then the pages by block and page.
 #[derive(Drop)]

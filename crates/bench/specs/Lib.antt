@@ -1,2 +1,4 @@
+pub mod Words
 pub mod Calibrations
 pub mod Compared
+pub mod Steps

@@ -4,7 +4,7 @@ ghost use Rattle.bench.specs.Calibrations.{record_of, found_in};
 const RECORD: usize = 10;
 
 // The zero and the span of a bench. A page begins with the mark CA and both as four bytes, high byte first.
-#[derive(Clone, Copy)]
+#[derive(Clone, Copy, PartialEq, Eq, Debug)]
 pub struct Calibration {
     pub zero: u32,
     pub span: u32,

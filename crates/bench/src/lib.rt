@@ -1,2 +1,6 @@
+#![tactic(auto)]
+
 pub mod calibration;
 pub mod compare;
+pub mod steps;
+pub mod words;

@@ -1,3 +1,5 @@
+#![tactic(auto)]
+
 mod area;
 mod buffer;
 mod bytes;

@@ -1,2 +1,4 @@
 pub mod View
+pub mod Judged
 pub mod Promise
+pub mod Played

@@ -1,12 +1,19 @@
 use linked::linked::Linked;
-use rules::state::Passing;
+use rules::flags::Flags;
+use rules::operation::Pending;
 
-// A store card over a main array, which stands under its links, and an OTP array. What lasts comes first.
+// The bytes of the page buffer.
+pub const PAGE: usize = 2112;
+
+// A store card over a main array, which stands under its links, and an OTP array.
 #[derive(Drop)]
 pub struct Card<M, O> {
     pub(crate) main: Linked<M>,
     pub(crate) otp: O,
     pub(crate) otp_l: bool,
     pub(crate) sr1_l: bool,
-    pub(crate) passing: Passing,
+    pub(crate) sr1: u8,
+    pub(crate) flags: Flags,
+    pub(crate) buffer: [u8; PAGE],
+    pub(crate) pending: Pending,
 }

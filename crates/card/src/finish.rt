@@ -19,68 +19,58 @@ fn is_worn(answer: Answer) -> bool
 
 impl<M: Array, O: Array> Card<M, O> {
     // The last step of a load: the page goes into the page buffer.
-    pub(crate) fn finish_load(&mut self, place: Place) -> u8
-        ensures after { view M.Array.meaning O.Array.meaning self.new ≡ finished (Load place) (view M.Array.meaning O.Array.meaning self.old) }
-        ensures left { result ≡ 0 }
+    pub(crate) fn finish_load(&mut self, place: Place)
+        ensures { view M.Array.meaning O.Array.meaning self.new ≡ finished (Load place) (view M.Array.meaning O.Array.meaning self.old) }
     {
         match place {
             Place::Main { address, page } => {
-                self.main.read(address, page, &mut self.passing.buffer);
+                self.main.read(address, page, &mut self.buffer);
             }
             Place::Otp { page } => {
-                self.otp.read(0, page, &mut self.passing.buffer);
+                self.otp.read(0, page, &mut self.buffer);
             }
         }
-        self.passing.flags.wel = false;
-        self.passing.pending = Pending::Idle;
-        0
+        self.flags.wel = false;
+        self.pending = Pending::Idle;
     }
 
     // The last step of a swap: the two addresses are linked.
-    pub(crate) fn finish_swap(&mut self, first: u16, second: u16) -> u8
-        ensures after { view M.Array.meaning O.Array.meaning self.new ≡ finished (Swap first second) (view M.Array.meaning O.Array.meaning self.old) }
-        ensures left { result ≡ 0 }
+    pub(crate) fn finish_swap(&mut self, first: u16, second: u16)
+        ensures { view M.Array.meaning O.Array.meaning self.new ≡ finished (Swap first second) (view M.Array.meaning O.Array.meaning self.old) }
     {
         self.main.swap(first, second);
-        self.passing.pending = Pending::Idle;
-        0
+        self.pending = Pending::Idle;
     }
 
     // The last step of a program: the page buffer is programmed into the page.
-    pub(crate) fn finish_program(&mut self, place: Place) -> u8
-        ensures after { view M.Array.meaning O.Array.meaning self.new ≡ finished (Program place) (view M.Array.meaning O.Array.meaning self.old) }
-        ensures left { result ≡ 0 }
+    pub(crate) fn finish_program(&mut self, place: Place)
+        ensures { view M.Array.meaning O.Array.meaning self.new ≡ finished (Program place) (view M.Array.meaning O.Array.meaning self.old) }
     {
         let answer = match place {
-            Place::Main { address, page } => self.main.program(address, page, &self.passing.buffer),
-            Place::Otp { page } => self.otp.program(0, page, &self.passing.buffer),
+            Place::Main { address, page } => self.main.program(address, page, &self.buffer),
+            Place::Otp { page } => self.otp.program(0, page, &self.buffer),
         };
-        self.passing.flags.wel = false;
-        self.passing.flags.p_fail = is_worn(answer) || self.passing.flags.p_fail;
-        self.passing.pending = Pending::Idle;
-        0
+        self.flags.wel = false;
+        self.flags.p_fail = is_worn(answer) || self.flags.p_fail;
+        self.pending = Pending::Idle;
     }
 
     // The last step of an erase: the block that the address reaches is erased.
-    pub(crate) fn finish_erase(&mut self, address: usize) -> u8
-        ensures after { view M.Array.meaning O.Array.meaning self.new ≡ finished (Erase address) (view M.Array.meaning O.Array.meaning self.old) }
-        ensures left { result ≡ 0 }
+    pub(crate) fn finish_erase(&mut self, address: usize)
+        ensures { view M.Array.meaning O.Array.meaning self.new ≡ finished (Erase address) (view M.Array.meaning O.Array.meaning self.old) }
     {
         let answer = self.main.erase(address);
-        self.passing.flags.wel = false;
-        self.passing.flags.e_fail = is_worn(answer) || self.passing.flags.e_fail;
-        self.passing.pending = Pending::Idle;
-        0
+        self.flags.wel = false;
+        self.flags.e_fail = is_worn(answer) || self.flags.e_fail;
+        self.pending = Pending::Idle;
     }
 
     // The last step of a lock: the new lock bits are set.
-    pub(crate) fn finish_lock(&mut self, otp: bool, sr1: bool) -> u8
-        ensures after { view M.Array.meaning O.Array.meaning self.new ≡ finished (Lock otp sr1) (view M.Array.meaning O.Array.meaning self.old) }
-        ensures left { result ≡ 0 }
+    pub(crate) fn finish_lock(&mut self, otp: bool, sr1: bool)
+        ensures { view M.Array.meaning O.Array.meaning self.new ≡ finished (Lock otp sr1) (view M.Array.meaning O.Array.meaning self.old) }
     {
         self.otp_l = self.otp_l || otp;
         self.sr1_l = self.sr1_l || sr1;
-        self.passing.pending = Pending::Idle;
-        0
+        self.pending = Pending::Idle;
     }
 }

@@ -3,14 +3,14 @@ ghost use Rattle.rules.specs.Calls.{new_card};
 ghost use Rattle.card.specs.View.{view};
 ghost use Rattle.card.specs.Promise.{CalibrationKept};
 
-use crate::card::Card;
-use arrays::array::{Array, PAGE};
+use crate::card::{Card, PAGE};
+use arrays::array::Array;
 use linked::linked::Linked;
 use links::table::Table;
-use rules::flags::POWER_UP_FLAGS;
+use parts::flags::power_up;
+use parts::sr1::POWER_UP;
 use rules::law::sealed_calibration_holds;
 use rules::operation::Pending;
-use rules::state::{POWER_UP_SR1, Passing};
 
 // The law of sealed calibration for every card that is made over these arrays.
 fn calibration_kept<M: Array, O: Array>(main: &M, otp: &O)
@@ -33,12 +33,10 @@ impl<M: Array, O: Array> Card<M, O> {
             otp,
             otp_l: false,
             sr1_l: false,
-            passing: Passing {
-                sr1: POWER_UP_SR1,
-                flags: POWER_UP_FLAGS,
-                buffer: [0xff; PAGE],
-                pending: Pending::Idle,
-            },
+            sr1: POWER_UP,
+            flags: power_up(),
+            buffer: [0xff; PAGE],
+            pending: Pending::Idle,
         };
         card.power_cycle();
         card

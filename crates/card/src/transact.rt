@@ -1,26 +1,40 @@
 ghost use Rattle.std.specs.Prelude.{◌≡◌, length};
-ghost use Rattle.rules.specs.Chip.{outline};
-ghost use Rattle.rules.specs.Calls.{transact};
+ghost use Rattle.frames.specs.Views.{values};
+ghost use Rattle.rules.specs.Calls.{transact, reply};
 ghost use Rattle.card.specs.View.{view};
 
 use crate::card::Card;
 use arrays::array::Array;
-use bus::transact::transact;
-use rules::refusal::Outcome;
-use rules::state::Outline;
+use frames::decode::decode;
+use frames::frame::Frame;
+use frames::instruction::Instruction;
+use frames::refusal::FrameRefusal;
+use parts::area::silence;
+use rules::refusal::{Outcome, Refusal};
 
 impl<M: Array, O: Array> Card<M, O> {
-    // What a transaction looks at beside the links. A card is fit with a main array that is not empty, and an OTP array of 1 block of 16 pages.
-    pub(crate) fn outline(&self) -> Outline
-        ensures { result ≡ outline (view M.Array.meaning O.Array.meaning self.now).lasting }
+    // Does what the outcome of a frame asks for: drives and acts, or refuses.
+    fn carry_out(
+        &mut self,
+        instruction: Instruction<'_>,
+        outcome: Outcome,
+        area: &mut [u8],
+    ) -> usize
+        ensures chip { view M.Array.meaning O.Array.meaning self.new ≡ (reply (view M.Array.meaning O.Array.meaning self.old) (values instruction.entry) outcome (length area.old)).chip }
+        ensures driven { result ≡ (reply (view M.Array.meaning O.Array.meaning self.old) (values instruction.entry) outcome (length area.old)).driven }
+        ensures area { area.new ≡ (reply (view M.Array.meaning O.Array.meaning self.old) (values instruction.entry) outcome (length area.old)).area }
     {
-        let blocks = self.main.blocks();
-        Outline {
-            fit: blocks != 0 && self.otp.blocks() == 1 && self.otp.pages() == 16,
-            blocks,
-            pages: self.main.pages(),
-            otp_l: self.otp_l,
-            sr1_l: self.sr1_l,
+        match outcome {
+            Outcome::Taken => {
+                let driven = self.drive(instruction, area);
+                self.act(instruction);
+                driven
+            }
+            Outcome::Refused(refusal) => {
+                let driven = silence(area);
+                self.refuse(refusal, instruction);
+                driven
+            }
         }
     }
 
@@ -31,14 +45,20 @@ impl<M: Array, O: Array> Card<M, O> {
         ensures driven { result.1 ≡ (transact (view M.Array.meaning O.Array.meaning self.old) sent.now low (length area.old)).driven }
         ensures area { area.new ≡ (transact (view M.Array.meaning O.Array.meaning self.old) sent.now low (length area.old)).area }
     {
-        let outline = self.outline();
-        transact(
-            &mut self.passing,
-            outline,
-            &self.main.table,
-            sent,
-            low,
-            area,
-        )
+        if !self.is_fit() {
+            return (Outcome::Refused(Refusal::Unfit), silence(area));
+        }
+        match decode(sent) {
+            Ok(frame) => {
+                let outcome = self.decide(low, frame);
+                let driven = self.carry_out(frame.instruction, outcome, area);
+                (outcome, driven)
+            }
+            Err(FrameRefusal::UnlistedCode) => (
+                Outcome::Refused(Refusal::UnlistedCode),
+                silence(area),
+            ),
+            Err(FrameRefusal::WrongCount) => (Outcome::Refused(Refusal::WrongCount), silence(area)),
+        }
     }
 }

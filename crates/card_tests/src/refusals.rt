@@ -1,9 +1,8 @@
 use crate::script::Line::*;
-use crate::script::{Line, play_on_new, right_lines};
-use arrays::array::Array;
+use crate::script::{Line, right_lines};
 use arrays::memory::Memory;
 use card::card::Card;
-use std::process::Abort;
+use std::alloc::Global;
 use std::test::Fail;
 
 // The frame, the counter, the pin and the registers.
@@ -58,7 +57,46 @@ const BACK: [Line; 22] = [
     Shows(&[0x05, 0xa0], 0x7c),
 ];
 
-// The swaps 0, 1 and 0, 2 and 0, 3, of which the table takes 20, and then refuses with 14.
+// 4 blocks of 2 pages and an OTP array of `otp_pages` pages, all lives 3.
+fn play_on_new(
+    heap: Global,
+    otp_pages: usize,
+    otp_length: usize,
+    lines: &[Line],
+) -> Result<usize, Fail> {
+    let mut main = vec![in heap; 0u8; 16_912]?;
+    let mut otp = vec![in heap; 0u8; otp_length]?;
+    let mut main = Memory::new(&mut main, 4, 2);
+    let mut otp = Memory::new(&mut otp, 1, otp_pages);
+    main.renew(3);
+    otp.renew(3);
+    let mut card = Card::new(main, otp);
+    Ok(right_lines(&mut card, lines))
+}
+
+#[test]
+fn refusals_of_a_small_card(rt: HostRuntime) -> Result<(), Fail> {
+    let heap = rt.alloc();
+    assert_eq!(rt; play_on_new(heap, 16, 33_796, &FRONT)?, FRONT.len());
+    assert_eq!(rt; play_on_new(heap, 16, 33_796, &BACK)?, BACK.len());
+    Ok(())
+}
+
+#[test]
+fn an_unfit_card_refuses_with_1(rt: HostRuntime) -> Result<(), Fail> {
+    assert_eq!(rt;
+        play_on_new(
+            rt.alloc(),
+            8,
+            16_900,
+            &[High(&[], 1), High(&[0x9f, 0], 1), Step(0), Power],
+        )?,
+        4
+    );
+    Ok(())
+}
+
+// The swaps 0, 1 and 0, 2 and so on, of which the table takes 20.
 const SWAPS: [Line; 9] = [
     High(&[0xa1, 0, 0, 0, 1], 0),
     Step(1),
@@ -71,34 +109,23 @@ const SWAPS: [Line; 9] = [
     Step(0),
 ];
 
-fn fills_the_table<M: Array, O: Array>(rt: &impl Abort, card: &mut Card<M, O>) {
-    assert_eq!(rt; right_lines(card, &[High(&[0x01, 0xa0, 0x00], 0)]), 1);
-    for _ in 0..6 {
-        assert_eq!(rt; right_lines(card, &SWAPS), 9);
-    }
-    assert_eq!(rt; right_lines(card, &SWAPS), 6, "20 of 21 swaps");
-    let full = [High(&[0xa1, 0, 0, 0, 3], 14), Shows(&[0x05, 0xc0], 0x40)];
-    assert_eq!(rt; right_lines(card, &full), 2);
-}
-
-#[test]
-fn refusals_of_a_small_card(rt: HostRuntime) -> Result<(), Fail> {
-    let heap = rt.alloc();
-    assert_eq!(rt; play_on_new(heap, 3, 16, &FRONT)?, FRONT.len());
-    assert_eq!(rt; play_on_new(heap, 3, 16, &BACK)?, BACK.len());
-    let unfit = [High(&[], 1), High(&[0x9f, 0], 1), Step(0), Power];
-    assert_eq!(rt; play_on_new(heap, 3, 8, &unfit)?, unfit.len(), "unfit");
-    Ok(())
-}
-
 #[test]
 fn a_full_table_refuses_with_14(rt: HostRuntime) -> Result<(), Fail> {
     let heap = rt.alloc();
     let mut main = vec![in heap; 0u8; 16_912]?;
     let mut otp = vec![in heap; 0u8; 33_796]?;
-    fills_the_table(
-        &rt,
-        &mut Card::new(Memory::new(&mut main, 4, 2), Memory::new(&mut otp, 1, 16)),
+    let mut card = Card::new(Memory::new(&mut main, 4, 2), Memory::new(&mut otp, 1, 16));
+    assert_eq!(rt; right_lines(&mut card, &[High(&[0x01, 0xa0, 0x00], 0)]), 1);
+    for _ in 0..6 {
+        assert_eq!(rt; right_lines(&mut card, &SWAPS), 9);
+    }
+    assert_eq!(rt; right_lines(&mut card, &SWAPS), 6, "20 of 21 swaps");
+    assert_eq!(rt;
+        right_lines(
+            &mut card,
+            &[High(&[0xa1, 0, 0, 0, 3], 14), Shows(&[0x05, 0xc0], 0x40)],
+        ),
+        2
     );
     Ok(())
 }

@@ -1,57 +1,80 @@
 use crate::script::Line::*;
-use crate::script::{Line, play_on_new};
+use crate::script::{Line, right_lines};
+use arrays::memory::Memory;
+use card::card::Card;
 use std::test::Fail;
 
 // At life 1 an erase finishes and the next program sets P-FAIL.
-const LAST_LIFE: [Line; 11] = [
+const LAST_LIFE: [Line; 6] = [
     High(&[0x01, 0xa0, 0x00], 0),
     High(&[0x06], 0),
     High(&[0xd8, 0, 0, 0], 0),
     Shows(&[0x05, 0xc0], 0x03),
-    Down(15, 1),
+    Step(15),
+    Step(14),
+];
+
+const THEN_WORN: [Line; 9] = [
     Step(0),
     Shows(&[0x05, 0xc0], 0x00),
     High(&[0x06], 0),
     High(&[0x10, 0, 0, 0], 0),
-    Down(3, 0),
+    Step(3),
+    Step(2),
+    Step(1),
+    Step(0),
     Shows(&[0x05, 0xc0], 0x08),
 ];
 
-// A page with 0Fh at its first byte, and an erase of its block that a power cycle drops after 15 of its 16 steps.
-const DROPPED_ERASE: [Line; 11] = [
+// A page with 0Fh at its first byte, and an erase of its block that a power cycle drops.
+const PROGRAMMED: [Line; 8] = [
     High(&[0x01, 0xa0, 0x00], 0),
     High(&[0x06], 0),
     High(&[0x02, 0, 0, 0x0f], 0),
     High(&[0x10, 0, 0, 0], 0),
-    Down(3, 0),
-    High(&[0x06], 0),
-    High(&[0xd8, 0, 0, 0], 0),
-    Down(15, 1),
-    Power,
+    Step(3),
+    Step(2),
+    Step(1),
     Step(0),
-    Shows(&[0x03, 0, 0, 0], 0x0f),
 ];
 
-// A new lock bit while OTP-E is 0.
-const NEW_LOCK: [Line; 1] = [High(&[0x01, 0xb0, 0x20], 8)];
+const DROPPED: [Line; 4] = [Step(1), Power, Step(0), Shows(&[0x03, 0, 0, 0], 0x0f)];
+
+// Steps of an erase that are not its last, from this many left on.
+fn steps_down(from: u8) -> [Line; 1] {
+    [Step(from)]
+}
 
 #[test]
-fn worked_points(rt: HostRuntime) -> Result<(), Fail> {
-    let heap = rt.alloc();
+fn the_last_erase_of_a_block(rt: HostRuntime) -> Result<(), Fail> {
+    let mut main = vec![in rt.alloc(); 0u8; 16_912]?;
+    let mut otp = vec![in rt.alloc(); 0u8; 33_796]?;
+    let mut main = Memory::new(&mut main, 4, 2);
+    main.renew(1);
+    let mut card = Card::new(main, Memory::new(&mut otp, 1, 16));
+    assert_eq!(rt; right_lines(&mut card, &LAST_LIFE), LAST_LIFE.len());
+    for left in (1..14u8).rev() {
+        assert_eq!(rt; right_lines(&mut card, &steps_down(left)), 1);
+    }
+    assert_eq!(rt; right_lines(&mut card, &THEN_WORN), THEN_WORN.len());
+    Ok(())
+}
+
+#[test]
+fn a_power_cycle_drops_an_erase(rt: HostRuntime) -> Result<(), Fail> {
+    let mut main = vec![in rt.alloc(); 0u8; 16_912]?;
+    let mut otp = vec![in rt.alloc(); 0u8; 33_796]?;
+    let mut main = Memory::new(&mut main, 4, 2);
+    main.renew(3);
+    let mut card = Card::new(main, Memory::new(&mut otp, 1, 16));
+    assert_eq!(rt; right_lines(&mut card, &PROGRAMMED), PROGRAMMED.len());
     assert_eq!(rt;
-        play_on_new(heap, 1, 16, &LAST_LIFE)?,
-        LAST_LIFE.len(),
-        "last life"
+        right_lines(&mut card, &[High(&[0x06], 0), High(&[0xd8, 0, 0, 0], 0)]),
+        2
     );
-    assert_eq!(rt;
-        play_on_new(heap, 3, 16, &DROPPED_ERASE)?,
-        DROPPED_ERASE.len(),
-        "dropped"
-    );
-    assert_eq!(rt;
-        play_on_new(heap, 3, 16, &NEW_LOCK)?,
-        NEW_LOCK.len(),
-        "SR-2 20h"
-    );
+    for left in (2..16u8).rev() {
+        assert_eq!(rt; right_lines(&mut card, &steps_down(left)), 1);
+    }
+    assert_eq!(rt; right_lines(&mut card, &DROPPED), DROPPED.len());
     Ok(())
 }

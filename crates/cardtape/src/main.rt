@@ -1,3 +1,5 @@
+#![tactic(auto)]
+
 // Replays a tape of calls from standard input on one new card, and prints an answer for each line.
 use arrays::array::Array;
 use arrays::memory::Memory;

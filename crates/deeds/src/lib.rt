@@ -1,3 +1,5 @@
+#![tactic(auto)]
+
 pub mod deed;
 mod judge;
 mod sequences;

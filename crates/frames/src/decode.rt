@@ -13,7 +13,7 @@ use crate::table::find;
 fn word_of(high: u8, low: u8) -> u16
     ensures { result ≡ word high low }
 {
-    u16::from(high) * 256 + u16::from(low)
+    u16::from_be_bytes([high, low])
 }
 
 // A column is the low 12 bits.

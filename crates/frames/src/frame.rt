@@ -1,7 +1,7 @@
 use crate::instruction::Instruction;
 
 // What the /WP pin has to do with a code: it may forbid one that writes, and a quad one needs the pin as a data line.
-#[derive(Clone, Copy)]
+#[derive(Clone, Copy, PartialEq)]
 pub struct Flags {
     pub write: bool,
     pub quad: bool,

@@ -1,5 +1,5 @@
 // What is asked for by a code alone.
-#[derive(Clone, Copy)]
+#[derive(Clone, Copy, PartialEq)]
 pub enum Simple {
     Reset,
     EnableWrite,
@@ -9,7 +9,7 @@ pub enum Simple {
 }
 
 // What is done at a row: the buffer is programmed into its page, its block is erased, or its page is fetched into the buffer.
-#[derive(Clone, Copy)]
+#[derive(Clone, Copy, PartialEq)]
 pub enum RowOperation {
     Program,
     Erase,

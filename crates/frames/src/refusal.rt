@@ -2,7 +2,7 @@ ghost use Rattle.std.specs.Prelude.{◌≡◌};
 ghost use Rattle.frames.specs.Refusals.{refusal_number};
 
 // Why the sent bytes are no frame.
-#[derive(Clone, Copy)]
+#[derive(Clone, Copy, PartialEq)]
 pub enum FrameRefusal {
     UnlistedCode,
     WrongCount,

@@ -1,6 +1,7 @@
 use crate::expected::{AFTER, expected};
 use crate::seen::{data_or, seen};
 use frames::decode::decode;
+use frames::refusal::FrameRefusal;
 use std::process::Abort;
 use std::test::Fail;
 
@@ -35,4 +36,10 @@ fn every_code_at_every_length(rt: HostRuntime) -> Result<(), Fail> {
         agrees_at_each_length(&rt, code).note(code)?;
     }
     Ok(())
+}
+
+#[test]
+fn numbers_of_refusals(rt: HostRuntime) {
+    assert_eq!(rt; FrameRefusal::UnlistedCode.number(), 2);
+    assert_eq!(rt; FrameRefusal::WrongCount.number(), 3);
 }

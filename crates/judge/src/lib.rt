@@ -1,3 +1,5 @@
+#![tactic(auto)]
+
 mod access;
 pub mod judge;
 mod rows;

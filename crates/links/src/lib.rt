@@ -1,3 +1,5 @@
+#![tactic(auto)]
+
 mod entries;
 pub mod entry;
 pub mod swap;

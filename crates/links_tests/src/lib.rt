@@ -1,6 +1,6 @@
+#![tactic(auto)]
+
 #[cfg(test)]
 mod linked_tests;
-#[cfg(test)]
-mod script;
 #[cfg(test)]
 mod table_tests;

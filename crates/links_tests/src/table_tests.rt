@@ -1,93 +1,52 @@
-use crate::script::Look::*;
-use crate::script::{Look, right_looks};
 use links::swap::is_outside;
-use links::table::Table;
+use links::table::{ENTRIES, Table};
 
 const N: usize = 1024;
 
-const NEW: [Look; 5] = [
-    Used(0),
-    Full(false),
-    Partner(N, 5, None),
-    Entry(0, [0, 0, 0, 0]),
-    Entry(19, [0, 0, 0, 0]),
-];
+// The blocks of `n` that three addresses reach.
+fn reached(table: &Table, n: usize, addresses: [usize; 3]) -> [usize; 3] {
+    let [a, b, c] = addresses;
+    [table.reach(n, a), table.reach(n, b), table.reach(n, c)]
+}
 
-// A swap exchanges two addresses, and a second one of the same first address retires the first.
-const TWO_SWAPS: [Look; 16] = [
-    Swap(5, 7, true),
-    Used(1),
-    Partner(N, 7, Some(5)),
-    Reaches(N, 5, 7),
-    Reaches(N, 6, 6),
-    Reaches(N, 7, 5),
-    Entry(0, [0x80, 0x05, 0x00, 0x07]),
-    Entry(1, [0, 0, 0, 0]),
-    Swap(5, 9, true),
-    Partner(N, 7, None),
-    Reaches(N, 5, 9),
-    Reaches(N, 7, 7),
-    Reaches(N, 9, 5),
-    Entry(0, [0xc0, 0x05, 0x00, 0x07]),
-    Entry(1, [0x80, 0x05, 0x00, 0x09]),
-    Used(2),
-];
-
-// A linked address is taken, and a refused swap leaves the table.
-const REFUSED: [Look; 10] = [
-    Swap(5, 7, true),
-    Taken(7, 8, true),
-    Taken(8, 5, true),
-    Taken(5, 7, true),
-    Taken(5, 8, false),
-    Swap(7, 8, false),
-    Swap(1024, 8, false),
-    Used(1),
-    Entry(0, [0x80, 0x05, 0x00, 0x07]),
-    Entry(1, [0, 0, 0, 0]),
-];
-
-// A link not wholly below N exchanges nothing.
-const ABOVE: [Look; 9] = [
-    Swap(3, 700, true),
-    Swap(4, 5, true),
-    Partner(700, 3, None),
-    Reaches(700, 3, 3),
-    Reaches(700, 700, 700),
-    Reaches(700, 4, 5),
-    Reaches(701, 3, 700),
-    Reaches(701, 700, 3),
-    Reaches(701, 4, 5),
-];
-
-const FULL: [Look; 6] = [
-    Full(true),
-    Used(20),
-    Swap(0, 21, false),
-    Reaches(N, 0, 20),
-    Reaches(N, 20, 0),
-    Reaches(N, 21, 21),
-];
-
-fn on_new(looks: &[Look]) -> usize {
-    right_looks(&mut Table::new(), looks)
+// The bytes of the first two entries.
+fn two_entries(table: &Table) -> [u8; 8] {
+    let [a, b, c, d, e, f, g, h, ..] = table.bytes();
+    [a, b, c, d, e, f, g, h]
 }
 
 #[test]
-fn tables_of_a_few_swaps(rt: HostRuntime) {
-    assert_eq!(rt; on_new(&NEW), NEW.len(), "new");
-    assert_eq!(rt; on_new(&TWO_SWAPS), TWO_SWAPS.len(), "two swaps");
-    assert_eq!(rt; on_new(&REFUSED), REFUSED.len(), "refused");
-    assert_eq!(rt; on_new(&ABOVE), ABOVE.len(), "above N");
-}
-
-#[test]
-fn a_full_table_takes_no_swap(rt: HostRuntime) {
-    let mut table = Table::new();
-    for second in 1..=20 {
-        assert_eq!(rt; right_looks(&mut table, &[Swap(0, second, true)]), 1);
+fn a_new_table_links_nothing(rt: HostRuntime) {
+    let table = Table::new();
+    assert_eq!(rt; table.used(), 0);
+    assert!(rt; !table.is_full());
+    assert_eq!(rt; table.partner(N, 5), None);
+    for byte in table.bytes() {
+        assert_eq!(rt; byte, 0);
     }
-    assert_eq!(rt; right_looks(&mut table, &FULL), FULL.len());
+}
+
+#[test]
+fn a_swap_exchanges_two_addresses(rt: HostRuntime) {
+    let mut table = Table::new();
+    assert!(rt; table.swap(N, 5, 7));
+    assert_eq!(rt; table.used(), 1);
+    assert_eq!(rt; table.partner(N, 7), Some(5));
+    assert_eq!(rt; reached(&table, N, [5, 6, 7]), [7, 6, 5]);
+    assert_eq!(rt; two_entries(&table), [0x80, 0x05, 0x00, 0x07, 0, 0, 0, 0]);
+}
+
+#[test]
+fn a_second_swap_retires_the_first(rt: HostRuntime) {
+    let mut table = Table::new();
+    assert!(rt; table.swap(N, 5, 7));
+    assert!(rt; table.swap(N, 5, 9));
+    assert_eq!(rt; table.partner(N, 7), None);
+    assert_eq!(rt; reached(&table, N, [5, 7, 9]), [9, 7, 5]);
+    assert_eq!(rt;
+        two_entries(&table),
+        [0xc0, 0x05, 0x00, 0x07, 0x80, 0x05, 0x00, 0x09]
+    );
 }
 
 #[test]
@@ -96,4 +55,46 @@ fn addresses_of_a_swap_exist_and_differ(rt: HostRuntime) {
     assert!(rt; is_outside(N, 3, 1024));
     assert!(rt; is_outside(N, 5, 5));
     assert!(rt; !is_outside(N, 1023, 0));
+}
+
+#[test]
+fn a_linked_address_is_taken(rt: HostRuntime) {
+    let mut table = Table::new();
+    assert!(rt; table.swap(N, 5, 7));
+    assert!(rt; table.is_taken(7, 8));
+    assert!(rt; table.is_taken(8, 5));
+    assert!(rt; table.is_taken(5, 7));
+    assert!(rt; !table.is_taken(5, 8));
+}
+
+#[test]
+fn a_refused_swap_leaves_the_table(rt: HostRuntime) {
+    let mut table = Table::new();
+    assert!(rt; table.swap(N, 5, 7));
+    assert!(rt; !table.swap(N, 7, 8));
+    assert!(rt; !table.swap(N, 1024, 8));
+    assert_eq!(rt; table.used(), 1);
+    assert_eq!(rt; two_entries(&table), [0x80, 0x05, 0x00, 0x07, 0, 0, 0, 0]);
+}
+
+#[test]
+fn a_full_table_takes_no_swap(rt: HostRuntime) {
+    let mut table = Table::new();
+    for second in 1..=20 {
+        assert!(rt; table.swap(N, 0, second));
+    }
+    assert!(rt; table.is_full());
+    assert_eq!(rt; table.used(), ENTRIES);
+    assert!(rt; !table.swap(N, 0, 21));
+    assert_eq!(rt; reached(&table, N, [0, 20, 21]), [20, 0, 21]);
+}
+
+#[test]
+fn a_link_not_wholly_below_n_exchanges_nothing(rt: HostRuntime) {
+    let mut table = Table::new();
+    assert!(rt; table.swap(N, 3, 700));
+    assert!(rt; table.swap(N, 4, 5));
+    assert_eq!(rt; table.partner(700, 3), None);
+    assert_eq!(rt; reached(&table, 700, [3, 700, 4]), [3, 700, 5]);
+    assert_eq!(rt; reached(&table, 701, [3, 700, 4]), [700, 3, 5]);
 }

@@ -1,3 +1,5 @@
+#![tactic(auto)]
+
 mod lines;
 pub mod read;
 pub mod reader;

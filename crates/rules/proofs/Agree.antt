@@ -9,8 +9,7 @@ use Rattle.rules.specs.declared.operation.Operation.TheVariants.{Load, Swap, Pro
 use Rattle.rules.specs.declared.operation.Pending.{Pending}
 use Rattle.rules.specs.declared.operation.Pending.TheVariants.{Idle, Doing}
 use Rattle.rules.specs.Registers.{power_lock}
-use Rattle.rules.specs.declared.state.Passing.{Passing}
-use Rattle.rules.specs.Chip.{Lasting, Chip, sealed}
+use Rattle.rules.specs.Chip.{Lasting, Passing, Chip, sealed}
 use Rattle.rules.specs.Book.{Ledger, Book, Wait, no_wait, awaiting, swap_of, erase_of, lock_of, named}
 use Rattle.rules.specs.Law.{Call, Moment, NoPowerCycle, page_at, stored_bit}
 use Rattle.rules.proofs.Swaps.{table}

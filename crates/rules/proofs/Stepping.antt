@@ -14,8 +14,7 @@ use Rattle.rules.specs.declared.operation.Operation.{Operation}
 use Rattle.rules.specs.declared.operation.Operation.TheVariants.{Load, Swap, Program, Erase, Lock}
 use Rattle.rules.specs.declared.operation.Pending.{Pending}
 use Rattle.rules.specs.declared.operation.Pending.TheVariants.{Idle, Doing}
-use Rattle.rules.specs.declared.state.Passing.{Passing}
-use Rattle.rules.specs.Chip.{Lasting, Chip, reached, sealed, with_pending}
+use Rattle.rules.specs.Chip.{Lasting, Passing, Chip, reached, sealed, with_pending}
 use Rattle.rules.specs.Operations.{finished}
 use Rattle.rules.specs.Calls.{step_of}
 use Rattle.rules.specs.Book.{Ledger, Book, Due, Wait, no_wait, awaiting, swap_of, erase_of, lock_of, named, settled, ticked}

@@ -14,12 +14,10 @@ use Rattle.rules.specs.declared.refusal.Outcome.{Outcome}
 use Rattle.rules.specs.declared.refusal.Outcome.TheVariants.{Taken, Refused}
 use Rattle.rules.specs.Registers.{power_lock, is_sr1, is_sr2, new_otp_l, new_sr1_l, with_sr2}
 use Rattle.rules.specs.Rows.{row_address}
-use Rattle.rules.specs.declared.state.Passing.{Passing}
-use Rattle.rules.specs.declared.state.Outline.{Outline}
-use Rattle.rules.specs.Chip.{Lasting, Chip, outline, busy, fit, sealed, with_sr1, with_flags, with_buffer, with_pending}
+use Rattle.rules.specs.Chip.{Lasting, Passing, Chip, busy, fit, sealed, with_sr1, with_flags, with_buffer, with_pending}
 use Rattle.rules.specs.Refusals.{Rung, ◌when◌, first, refusals, sr1_shut, sealed_row, partner_sealed, is_fixed_row}
 use Rattle.rules.specs.Effects.{effect, lock_begun, sr2_written}
-use Rattle.rules.specs.Calls.{passing_after}
+use Rattle.rules.specs.Calls.{chip_after}
 use Rattle.rules.specs.Book.{Ledger, Book, Wait, no_wait, awaiting, erase_of, named, with_wait, lock_wait, noted_taken, noted_by}
 use Rattle.rules.specs.Law.{Call}
 use Rattle.rules.proofs.Agree.{chip_of, moment, Swappable, Awaits, Agrees, Onward, still}
@@ -70,8 +68,8 @@ address_below : (n p row : ℕ) → 0 < n → 0 < p → row_address n p row < n
 address_below n p row hn hp = (div-lt_iff_lt-mul hp).1 (mod-lt row (mul-pos hn hp))
 
 module _ (main : Store) (shape : Shape main) (l : Lasting) (s : Passing) (b : Book) (a : Agrees main (moment l s b)) (low : Bool) (k : Call) where
-  abbrev o : Outline
-  o = outline l
+  abbrev c : Chip
+  c = chip_of l s
 
   abbrev Leads : Passing → Book → Type 0
   Leads s' b' = Onward main (moment l s b) k (moment l s' b')
@@ -95,7 +93,7 @@ module _ (main : Store) (shape : Shape main) (l : Lasting) (s : Passing) (b : Bo
 
   -- ---- register writes
 
-  sr1_on : (v : ℕ) → (busy s.pending && true) ≡ false → sr1_shut o l.links s low ≡ false → Leads (with_sr1 v s) (record { ledger = b.ledger; sr1 = v; waits = b.waits })
+  sr1_on : (v : ℕ) → (busy s.pending && true) ≡ false → sr1_shut c low ≡ false → Leads (with_sr1 v s) (record { ledger = b.ledger; sr1 = v; waits = b.waits })
   sr1_on v h t =
       let parts = or_parts l.sr1_l _ t in
       let power = (or_parts (power_lock s.sr1) _ parts.1).0 in
@@ -108,7 +106,7 @@ module _ (main : Store) (shape : Shape main) (l : Lasting) (s : Passing) (b : Bo
   lock_awaits false true = refl
   lock_awaits false false = a.awaits
 
-  sr2_on : (v : ℕ) → Leads (sr2_written o s v) (with_wait b (lock_wait (new_otp_l b.ledger.otp_l v) (new_sr1_l b.ledger.sr1_l v) b.waits))
+  sr2_on : (v : ℕ) → Leads (sr2_written c v) (with_wait b (lock_wait (new_otp_l b.ledger.otp_l v) (new_sr1_l b.ledger.sr1_l v) b.waits))
   sr2_on v =
       let q = lock_begun (new_otp_l l.otp_l v) (new_sr1_l l.sr1_l v) s.pending in
       starts (with_sr2 v s.flags) q _
@@ -116,8 +114,8 @@ module _ (main : Store) (shape : Shape main) (l : Lasting) (s : Passing) (b : Bo
       (subst (λ z. Awaits l s.sr1 b.ledger q (lock_wait (new_otp_l l.otp_l v) (new_sr1_l z v) b.waits)) a.kept.sr1_l
       (lock_awaits (new_otp_l l.otp_l v) (new_sr1_l l.sr1_l v))))
 
-  write_on : (x y : Bool) (v : ℕ) → (busy s.pending && true) ≡ false → (x && sr1_shut o l.links s low) ≡ false
-      → Leads (cond x (with_sr1 v s) (cond y (sr2_written o s v) s))
+  write_on : (x y : Bool) (v : ℕ) → (busy s.pending && true) ≡ false → (x && sr1_shut c low) ≡ false
+      → Leads (cond x (with_sr1 v s) (cond y (sr2_written c v) s))
       (cond x (record { ledger = b.ledger; sr1 = v; waits = b.waits }) (cond y (with_wait b (lock_wait (new_otp_l b.ledger.otp_l v) (new_sr1_l b.ledger.sr1_l v) b.waits)) b))
   write_on true y v h t = sr1_on v h t
   write_on false true v h t = sr2_on v
@@ -137,7 +135,7 @@ module _ (main : Store) (shape : Shape main) (l : Lasting) (s : Passing) (b : Bo
       let p : 0 < l.main.pages = subst (λ z. 0 < z) (sym a.kept.pages) (pages_pos main shape (λ z. let q = a.kept.blocks in omega arith)) in
       address_below l.main.blocks l.main.pages row n p
 
-  erase_awaits : (row : ℕ) → fit l ≡ true → sealed_row o l.links s row ≡ false
+  erase_awaits : (row : ℕ) → fit l ≡ true → sealed_row c row ≡ false
       → Awaits l s.sr1 b.ledger (Doing (Erase (row_address l.main.blocks l.main.pages row)) 16) (awaiting (erase_of (named b.ledger.swaps (row_address b.ledger.blocks b.ledger.pages row))) 16)
   erase_awaits row f o = record {
     waits =
@@ -150,7 +148,7 @@ module _ (main : Store) (shape : Shape main) (l : Lasting) (s : Passing) (b : Bo
   -- ---- swaps
 
   swappable : (x y : ℕ) → outside l.main.blocks x y ≡ false → in_links x y l.links ≡ false → full l.links ≡ false
-      → (sealed l s.sr1 x || (sealed l s.sr1 y || partner_sealed o l.links s (partner l.main.blocks l.links x))) ≡ false → Swappable l s.sr1 x y
+      → (sealed l s.sr1 x || (sealed l s.sr1 y || partner_sealed c (partner l.main.blocks l.links x))) ≡ false → Swappable l s.sr1 x y
   swappable x y out linked room seal =
       let one = or_parts (sealed l s.sr1 x) _ seal in
       let two = or_parts (sealed l s.sr1 y) _ one.1 in
@@ -158,12 +156,12 @@ module _ (main : Store) (shape : Shape main) (l : Lasting) (s : Passing) (b : Bo
         may = not_from_false _ (or_from (outside l.main.blocks x y) _ out (or_from (in_links x y l.links) (full l.links) linked room));
         a_open = one.0;
         b_open = two.0;
-        partner_open = λ z t e. both_ways (sealed l s.sr1 z) (subst (λ who. partner_sealed o l.links s who ≡ false) e two.1) t;
+        partner_open = λ z t e. both_ways (sealed l s.sr1 z) (subst (λ o. partner_sealed c o ≡ false) e two.1) t;
       }
 
   -- ---- every instruction
 
-  takes : (i : Told) (known right pin : Bool) → Clear (refusals o l.links s low i known right pin) → Leads (effect o s i) (noted_taken b i)
+  takes : (i : Told) (known right pin : Bool) → Clear (refusals c low i known right pin) → Leads (effect c i) (noted_taken b i)
   takes nothing _ _ _ r = nothing_new
   takes (plain x) _ _ _ r = flags_on _
   takes (read_register x) _ _ _ r = nothing_new
@@ -175,9 +173,9 @@ module _ (main : Store) (shape : Shape main) (l : Lasting) (s : Passing) (b : Bo
   takes (load_buffer refill x xs) _ _ _ r = buffer_on _
   takes (read_buffer x) _ _ _ r = nothing_new
 
-  by_outcomes : (i : Told) (known right pin : Bool) (out : Outcome) → (out ≡ Taken → Clear (refusals o l.links s low i known right pin)) → Onward main (moment l s b) k (record { chip = chip_of l (passing_after o s i out); book = noted_by b i out })
+  by_outcomes : (i : Told) (known right pin : Bool) (o : Outcome) → (o ≡ Taken → Clear (refusals c low i known right pin)) → Onward main (moment l s b) k (record { chip = chip_after c i o; book = noted_by b i o })
   by_outcomes i known right pin Taken p = takes i known right pin (p refl)
   by_outcomes i known right pin (Refused r) p = flags_on _
 
-  pub answers : (i : Told) (known right pin : Bool) → let out = first (refusals o l.links s low i known right pin) in Onward main (moment l s b) k (record { chip = chip_of l (passing_after o s i out); book = noted_by b i out })
-  answers i known right pin = by_outcomes i known right pin (first (refusals o l.links s low i known right pin)) (clear (refusals o l.links s low i known right pin))
+  pub answers : (i : Told) (known right pin : Bool) → let o = first (refusals c low i known right pin) in Onward main (moment l s b) k (record { chip = chip_after c i o; book = noted_by b i o })
+  answers i known right pin = by_outcomes i known right pin (first (refusals c low i known right pin)) (clear (refusals c low i known right pin))

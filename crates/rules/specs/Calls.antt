@@ -1,7 +1,6 @@
 -- The calls of a card: transaction, step and power cycle; and a new card.
 use Rattle.std.specs.Prelude.{ℕ, ◌-◌, min, Bool, false, cond, List, [], ◌++◌, length, take, replicate, nat_lt}
 use Rattle.arrays.specs.Store.{Store}
-use Rattle.links.specs.declared.entry.Entry.{Entry}
 use Rattle.links.specs.Links.{no_links}
 use Rattle.frames.specs.Frames.{Told, told}
 use Rattle.rules.specs.declared.operation.Place.TheVariants.{Main}
@@ -11,53 +10,39 @@ use Rattle.rules.specs.declared.refusal.Outcome.{Outcome}
 use Rattle.rules.specs.declared.refusal.Outcome.TheVariants.{Taken, Refused}
 use Rattle.rules.specs.Registers.{power_up_sr1}
 use Rattle.rules.specs.FlagChanges.{power_up_flags}
-use Rattle.rules.specs.declared.state.Passing.{Passing}
-use Rattle.rules.specs.declared.state.Outline.{Outline}
-use Rattle.rules.specs.Chip.{Lasting, Chip, fit, outline, blank_buffer, with_pending}
+use Rattle.rules.specs.Chip.{Lasting, Chip, fit, blank_buffer, with_pending}
 use Rattle.rules.specs.Refusals.{outcome as decided}
 use Rattle.rules.specs.Operations.{loaded, finished}
 use Rattle.rules.specs.Effects.{effect, refusal_effect, drives}
 
 -- ---- a transaction
 
--- what passes, after it is taken or refused; nothing that lasts changes at once
-abbrev pub passing_after : Outline → Passing → Told → Outcome → Passing
-passing_after o s i Taken = effect o s i
-passing_after o s i (Refused refusal) = refusal_effect refusal i s
-
-abbrev pub drives_by : Outline → List Entry → Passing → ℕ → Told → Outcome → List ℕ
-drives_by o links s n i Taken = drives o links s n i
-drives_by o links s n i (Refused refusal) = []
-
--- driven bytes stand first in the area of n, as many as it takes, and FFh fills the rest
-abbrev pub area_of : ℕ → List ℕ → List ℕ
-area_of n xs = take n xs ++ replicate (n - length xs) 255
-
--- what then passes, the outcome, the count of driven bytes and the area
-pub record Exchange : Type 0 where
-  pub passing : Passing
-  pub outcome : Outcome
-  pub driven : ℕ
-  pub area : List ℕ
-
-abbrev pub answered : Outline → List Entry → Passing → ℕ → Told → Outcome → Exchange
-answered o links s n i out = record { passing = passing_after o s i out; outcome = out; driven = min n (length (drives_by o links s n i out)); area = area_of n (drives_by o links s n i out) }
-
--- of the sent bytes, with /WP low or not, and an area of n bytes
-abbrev pub exchanged : Outline → List Entry → Passing → List ℕ → Bool → ℕ → Exchange
-exchanged o links s sent low n = answered o links s n (told sent) (decided o links s low sent)
-
--- the same of a card
+-- the card, the outcome, the count of driven bytes and the area afterwards
 pub record Reply : Type 0 where
   pub chip : Chip
   pub outcome : Outcome
   pub driven : ℕ
   pub area : List ℕ
 
+-- nothing that lasts changes at once
+abbrev pub chip_after : Chip → Told → Outcome → Chip
+chip_after c i Taken = record { lasting = c.lasting; passing = effect c i }
+chip_after c i (Refused refusal) = record { lasting = c.lasting; passing = refusal_effect refusal i c.passing }
+
+abbrev pub drives_by : Chip → ℕ → Told → Outcome → List ℕ
+drives_by c n i Taken = drives c n i
+drives_by c n i (Refused refusal) = []
+
+-- driven bytes stand first in the area of n, as many as it takes, and FFh fills the rest
+abbrev pub area_of : ℕ → List ℕ → List ℕ
+area_of n xs = take n xs ++ replicate (n - length xs) 255
+
+abbrev pub reply : Chip → Told → Outcome → ℕ → Reply
+reply c i o n = record { chip = chip_after c i o; outcome = o; driven = min n (length (drives_by c n i o)); area = area_of n (drives_by c n i o) }
+
+-- of the sent bytes, with /WP low or not, and an area of n bytes
 abbrev pub transact : Chip → List ℕ → Bool → ℕ → Reply
-transact c sent low n =
-    let e = exchanged (outline c.lasting) c.lasting.links c.passing sent low n in
-    record { chip = record { lasting = c.lasting; passing = e.passing }; outcome = e.outcome; driven = e.driven; area = e.area }
+transact c sent low n = reply c (told sent) (decided c low sent) n
 
 -- ---- a step
 

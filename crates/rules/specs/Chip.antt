@@ -7,8 +7,6 @@ use Rattle.linked.specs.Shown.{shown}
 use Rattle.rules.specs.declared.flags.Flags.{Flags}
 use Rattle.rules.specs.declared.operation.Pending.{Pending}
 use Rattle.rules.specs.declared.operation.Pending.TheVariants.{Idle, Doing}
-use Rattle.rules.specs.declared.state.Passing.{Passing}
-use Rattle.rules.specs.declared.state.Outline.{Outline}
 use Rattle.rules.specs.Seal.{covers}
 
 pub record Lasting : Type 0 where
@@ -18,7 +16,12 @@ pub record Lasting : Type 0 where
   pub otp_l : Bool
   pub sr1_l : Bool
 
--- `Passing` is declared with the code: SR-1, the flags, the page buffer and the pending operation
+pub record Passing : Type 0 where
+  pub sr1 : ℕ
+  pub flags : Flags
+  pub buffer : List ℕ
+  pub pending : Pending
+
 pub record Chip : Type 0 where
   pub lasting : Lasting
   pub passing : Passing
@@ -32,10 +35,6 @@ busy (Doing operation left) = true
 -- the main array is not empty, and the OTP array has 1 block of 16 pages
 abbrev pub fit : Lasting → Bool
 fit l = not (l.main.blocks == 0) && (l.otp.blocks == 1 && l.otp.pages == 16)
-
--- what a transaction looks at of it, beside the links
-abbrev pub outline : Lasting → Outline
-outline l = record { fit = fit l; blocks = l.main.blocks; pages = l.main.pages; otp_l = l.otp_l; sr1_l = l.sr1_l }
 
 -- the block that address x reaches, and the main array under its links
 abbrev pub reached : Lasting → ℕ → ℕ

@@ -1,5 +1,5 @@
 // The bits of SR-2 and SR-3 that a power cycle resets.
-#[derive(Clone, Copy)]
+#[derive(Clone, Copy, PartialEq, Eq, Debug)]
 pub struct Flags {
     // rows name pages of the OTP array
     pub otp_e: bool,
@@ -10,12 +10,3 @@ pub struct Flags {
     pub p_fail: bool,
     pub e_fail: bool,
 }
-
-// The flags after a power cycle.
-pub const POWER_UP_FLAGS: Flags = Flags {
-    otp_e: false,
-    ecc_e: true,
-    wel: false,
-    p_fail: false,
-    e_fail: false,
-};

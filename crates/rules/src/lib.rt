@@ -1,5 +1,6 @@
+#![tactic(auto)]
+
 pub mod flags;
 pub mod law;
 pub mod operation;
 pub mod refusal;
-pub mod state;

@@ -3,7 +3,7 @@ ghost use Rattle.rules.specs.Chip.{busy};
 ghost use Rattle.rules.specs.Operations.{steps, begun};
 
 // A page that a row names.
-#[derive(Clone, Copy)]
+#[derive(Clone, Copy, PartialEq, Eq, Debug)]
 pub enum Place {
     // of the main array, by the block address
     Main { address: usize, page: usize },
@@ -12,7 +12,7 @@ pub enum Place {
 }
 
 // What waits for its last step.
-#[derive(Clone, Copy)]
+#[derive(Clone, Copy, PartialEq, Eq, Debug)]
 pub enum Operation {
     // the page goes into the page buffer
     Load(Place),
@@ -27,7 +27,7 @@ pub enum Operation {
 }
 
 // The counter: `left` steps of an operation are left, and the last one acts.
-#[derive(Clone, Copy)]
+#[derive(Clone, Copy, PartialEq, Eq, Debug)]
 pub enum Pending {
     Idle,
     Doing { operation: Operation, left: u8 },

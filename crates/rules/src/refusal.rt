@@ -2,7 +2,7 @@ ghost use Rattle.std.specs.Prelude.{◌≡◌};
 ghost use Rattle.rules.specs.Outcomes.{outcome_number, refusal_number, refusal_place};
 
 // Why a transaction is refused, in the order in which the reasons are tried.
-#[derive(Clone, Copy)]
+#[derive(Clone, Copy, PartialEq, Eq, Debug)]
 pub enum Refusal {
     Unfit,
     UnlistedCode,
@@ -22,7 +22,7 @@ pub enum Refusal {
 }
 
 // The part of the card that refuses.
-#[derive(Clone, Copy)]
+#[derive(Clone, Copy, PartialEq, Eq, Debug)]
 pub enum RefusalPlace {
     Card,
     Frame,
@@ -35,7 +35,7 @@ pub enum RefusalPlace {
 }
 
 // What becomes of a transaction.
-#[derive(Clone, Copy)]
+#[derive(Clone, Copy, PartialEq, Eq, Debug)]
 pub enum Outcome {
     Taken,
     Refused(Refusal),

@@ -1,2 +1,4 @@
+#![tactic(auto)]
+
 pub mod law;
 pub mod seal;

@@ -1,20 +1,17 @@
-// One whole visit at a bench, and a second one that is given up, printed as a report that a technician files.
-mod conduct;
-mod traffic;
+#![tactic(auto)]
 
-use arrays::array::{Array, PAGE};
+// One task at a bench array, from its first step to its last, printed as a report that a technician can read.
+use arrays::array::Array;
 use arrays::dump::Dump;
 use arrays::memory::Memory;
 use bench::calibration::Calibration;
 use bench::compare::Test;
+use bench::steps::{program_and_read, wear_out};
+use bench::words::word;
 use card::card::Card;
-use conduct::{End, Order, calibrate, inspect};
-use deeds::deed::check;
-use faults::fault::Fault;
-use report::words::{part_word, place_word};
-use rules::refusal::Outcome;
+use linked::linked::Linked;
+use links::table::Table;
 use std::io;
-use traffic::{Attempt, EXCHANGE, HOSTILE};
 
 const BLOCKS: usize = 4;
 
@@ -22,189 +19,148 @@ const PAGES: usize = 2;
 
 const LIFE: u32 = 3;
 
+const PAGE: usize = 2112;
+
 const BYTES: usize = 16_912;
 
 const OTP_BYTES: usize = 33_796;
 
-// Page 0 at address 1, and at address 3, with which it is exchanged in the end.
-const ROW: u16 = 2;
+// The address whose block is worn out, and the one that it is exchanged with.
+const FIRST: usize = 1;
 
-const NEW_ROW: u16 = 6;
+const SECOND: usize = 2;
 
-// Seals every address, with WP-E.
-const SEAL: u8 = 0xfe;
-
-// The calibration of the bench, and one that its page does not hold.
+// The calibration of the bench, and one that is programmed over it without an erase.
 const GOOD: Calibration = Calibration {
     zero: 1_250,
     span: 48_000,
 };
 
-const WRONG: Calibration = Calibration {
+const HASTY: Calibration = Calibration {
     zero: 1_244,
     span: 50_000,
 };
 
-fn print_outcome(rt: &HostRuntime, name: &str, outcome: Outcome) -> io::Result<()> {
-    match outcome {
-        Outcome::Taken => println!(rt; "  {name}: taken"),
-        Outcome::Refused(refusal) => println!(rt;
-            "  {name}: refused, {} ({})",
-            refusal.number(),
-            part_word(refusal.place())
-        ),
-    }
-}
-
-fn print_fault(rt: &HostRuntime, fault: Fault) -> io::Result<()> {
-    let (number, place) = (fault.number(), place_word(fault.place()));
-    println!(rt; "  fault {number} ({place})")?;
-    let (code, row, column) = (fault.code(), fault.row, fault.column());
-    println!(rt; "  code {code}, row {row}, column {column}")
-}
-
-fn print_end(rt: &HostRuntime, end: End) -> io::Result<()> {
-    match end {
-        End::Sealed => println!(rt; "  opened, written, checked, sealed"),
-        End::Closed(fault) => print_fault(rt, fault),
-        End::GivenUp(fault, outcome) => {
-            print_fault(rt, fault)?;
-            print_outcome(rt, "given up", outcome)
-        }
-    }
-}
-
-// SR-1 as 05h gives it.
-fn sr1<M: Array, O: Array>(card: &mut Card<M, O>) -> u8 {
-    let mut area = [0];
-    let _ = card.transact(&[0x05, 0xa0], false, &mut area);
-    area[0]
-}
-
-// Makes the transaction, and the steps that it may wait for if it is taken.
-fn attempt<M: Array, O: Array>(card: &mut Card<M, O>, low: bool, sent: &[u8]) -> Outcome {
-    let (outcome, _) = card.transact(sent, low, &mut []);
-    for _ in 0..16 {
-        card.step();
-    }
-    outcome
-}
-
-// Reads the page at the row, and counts the bytes that are as they were written.
-fn bytes_kept<M: Array, O: Array>(
-    card: &mut Card<M, O>,
-    row: u16,
-    written: &[u8],
-    area: &mut [u8],
-) -> usize {
-    let _ = check(card, false, row, written, area);
-    Test::Equal.count(written, area)
-}
-
-fn print_page<M: Array, O: Array>(
+// Programs page 0 of a block and prints what it holds then, beside what it held.
+fn program<A: Array>(
     rt: &HostRuntime,
-    card: &mut Card<M, O>,
-    when: &str,
-    written: &[u8],
-    area: &mut [u8],
-) -> io::Result<()> {
-    let equal = bytes_kept(card, ROW, written, area);
-    println!(rt; "page after {when}\n  {equal} of {PAGE} bytes as written")
-}
-
-// Makes each attempt and prints what becomes of it.
-fn attempt_all<M: Array, O: Array>(
-    rt: &HostRuntime,
-    card: &mut Card<M, O>,
-    low: bool,
-    attempts: &[Attempt],
-) -> io::Result<()> {
-    for named in attempts {
-        print_outcome(rt, named.0, attempt(card, low, named.1))?;
-    }
-    Ok(())
-}
-
-// The first visit: the page is written, checked and sealed, and then attacked.
-fn first_visit<M: Array, O: Array>(
-    rt: &HostRuntime,
-    card: &mut Card<M, O>,
+    array: &mut A,
+    block: usize,
     sent: &[u8],
-    area: &mut [u8],
+    held: &[u8],
+    read: &mut [u8],
 ) -> io::Result<()> {
-    println!(rt; "first visit: calibrate row {ROW}")?;
-    let order = Order {
-        row: ROW,
-        bytes: sent,
-        byte: SEAL,
-    };
-    print_end(rt, calibrate(card, order, area))?;
-    println!(rt; "  SR-1: {}", sr1(card))?;
-    println!(rt; "bus traffic against the seal, /WP high")?;
-    attempt_all(rt, card, false, &HOSTILE)?;
-    println!(rt; "bus traffic against the seal, /WP low")?;
-    attempt_all(rt, card, true, &HOSTILE)?;
-    print_page(rt, card, "the traffic", sent, area)?;
-    card.power_cycle();
-    print_page(rt, card, "a power cycle", sent, area)?;
-    println!(rt; "  SR-1: {}", sr1(card))
-}
-
-// The second visit finds another calibration than it expects, and is given up.
-fn second_visit<M: Array, O: Array>(
-    rt: &HostRuntime,
-    card: &mut Card<M, O>,
-    expected: &[u8],
-    area: &mut [u8],
-) -> io::Result<()> {
-    println!(rt; "second visit: check row {ROW}")?;
-    let order = Order {
-        row: ROW,
-        bytes: expected,
-        byte: SEAL,
-    };
-    print_end(rt, inspect(card, order, area))?;
-    println!(rt; "  SR-1: {}", sr1(card))
-}
-
-// Exchanges two addresses, as for a worn block, and reads the page at its new address.
-fn replace_block<M: Array, O: Array>(
-    rt: &HostRuntime,
-    card: &mut Card<M, O>,
-    written: &[u8],
-    area: &mut [u8],
-) -> io::Result<()> {
-    println!(rt; "blocks 1 and 3 are exchanged")?;
-    attempt_all(rt, card, false, &EXCHANGE)?;
-    let equal = bytes_kept(card, NEW_ROW, written, area);
-    println!(rt; "  row {NEW_ROW}: {equal} of {PAGE} bytes as written")
-}
-
-// Reads the page in the bytes of the main array, as a dump, and prints the calibration that it holds.
-fn print_dump(rt: &HostRuntime, bytes: &[u8], area: &mut [u8]) -> io::Result<()> {
-    Dump::new(bytes, BLOCKS, PAGES).read(1, 0, area);
-    println!(rt; "dump of block 1, page 0")?;
-    match Calibration::in_page(area) {
-        Some(found) => println!(rt; "  zero {}, span {}", found.zero, found.span),
-        None => println!(rt; "  no calibration"),
+    let (programmed, shown) = program_and_read(array, block, 0, sent, read);
+    println!(rt; "program address {block}, page 0: {}", word(programmed))?;
+    println!(rt; "read it back: {}", word(shown))?;
+    match Calibration::in_page(read) {
+        Some(found) => println!(rt; "  zero {}, span {}", found.zero, found.span)?,
+        None => println!(rt; "  no calibration")?,
     }
+    let equal = Test::Equal.count(sent, read);
+    let risen = Test::Risen.count(held, read);
+    println!(rt; "  {equal} of {PAGE} bytes as sent; a bit rose in {risen}")
+}
+
+// Erases a block until it is worn, and shows that it takes nothing more.
+fn wear(rt: &HostRuntime, array: &mut Memory<'_>, block: usize, sent: &[u8]) -> io::Result<()> {
+    let erases = wear_out(array, block);
+    let then = word(array.erase(block));
+    println!(rt; "erase address {block}: done {erases} times, then {then}")?;
+    println!(rt;
+        "program address {block}, page 0: {}",
+        word(array.program(block, 0, sent))
+    )?;
+    println!(rt;
+        "program address {BLOCKS}, page 0: {}",
+        word(array.program(BLOCKS, 0, sent))
+    )
+}
+
+// Exchanges two addresses, and prints which block the first one reaches then.
+fn exchange<A: Array>(
+    rt: &HostRuntime,
+    array: &mut Linked<A>,
+    first: u16,
+    second: u16,
+) -> io::Result<()> {
+    let done = if array.swap(first, second) {
+        "done"
+    } else {
+        "refused"
+    };
+    println!(rt; "swap addresses {first} and {second}: {done}")?;
+    let block = array.table.reach(BLOCKS, usize::from(first));
+    println!(rt; "  address {first} reaches block {block}")
+}
+
+// Reads a page of the same bytes through a dump array.
+fn dump(
+    rt: &HostRuntime,
+    bytes: &[u8],
+    block: usize,
+    sent: &[u8],
+    read: &mut [u8],
+) -> io::Result<()> {
+    let mut dump = Dump::new(bytes, BLOCKS, PAGES);
+    let shown = word(dump.read(block, 0, read));
+    println!(rt; "read block {block}, page 0 through a dump: {shown}")?;
+    let programmed = word(dump.program(block, 0, sent));
+    println!(rt; "program it through the dump: {programmed}")?;
+    let equal = Test::Equal.count(sent, read);
+    println!(rt; "{equal} of {PAGE} bytes equal")
+}
+
+// Sends to a card, with /WP high and no area, and prints what becomes of it.
+fn send<M: Array, O: Array>(
+    rt: &HostRuntime,
+    card: &mut Card<M, O>,
+    name: &str,
+    sent: &[u8],
+) -> io::Result<()> {
+    let (outcome, _) = card.transact(sent, false, &mut []);
+    println!(rt; "{name}: outcome {}", outcome.number())
+}
+
+// Makes a new card over the array, under the law of sealed calibration, and tries to write to its sealed rows.
+fn seal<M: Array, O: Array>(rt: &HostRuntime, main: M, otp: O) -> io::Result<()>
+where
+    M: Drop,
+    O: Drop,
+{
+    let mut card = Card::new(main, otp);
+    send(rt, &mut card, "new card, write enable", &[0x06])?;
+    send(
+        rt,
+        &mut card,
+        "program row 4, which is sealed",
+        &[0x10, 0, 0, 4],
+    )
 }
 
 fn main(rt: HostRuntime) -> anyhow::Result<()> {
-    let mut good = [0xff; PAGE];
-    let mut wrong = [0xff; PAGE];
-    let mut area = [0; PAGE];
-    let mut bytes = [0; BYTES];
-    let mut otp = [0; OTP_BYTES];
-    GOOD.stamp(&mut good);
-    WRONG.stamp(&mut wrong);
-    println!(rt; "store card, {BLOCKS} blocks of {PAGES} pages, new")?;
-    let mut main = Memory::new(&mut bytes, BLOCKS, PAGES);
-    main.renew(LIFE);
-    let mut card = Card::new(main, Memory::new(&mut otp, 1, 16));
-    first_visit(&rt, &mut card, &good, &mut area)?;
-    second_visit(&rt, &mut card, &wrong, &mut area)?;
-    replace_block(&rt, &mut card, &good, &mut area)?;
-    print_dump(&rt, &bytes, &mut area)?;
+    let heap = rt.alloc();
+    let blank = vec![in heap; 0xffu8; PAGE]?;
+    let mut sent = vec![in heap; 0xffu8; PAGE]?;
+    let mut again = vec![in heap; 0xffu8; PAGE]?;
+    let mut read = vec![in heap; 0u8; PAGE]?;
+    let mut over = vec![in heap; 0u8; PAGE]?;
+    let mut bytes = vec![in heap; 0u8; BYTES]?;
+    let mut otp = vec![in heap; 0u8; OTP_BYTES]?;
+    GOOD.stamp(&mut sent);
+    HASTY.stamp(&mut again);
+    let mut array = Memory::new(&mut bytes, BLOCKS, PAGES);
+    array.renew(LIFE);
+    let (n, p) = (array.blocks(), array.pages());
+    println!(rt; "new array: {n} blocks of {p} pages, life {LIFE} each")?;
+    program(&rt, &mut array, FIRST, &sent, &blank, &mut read)?;
+    program(&rt, &mut array, FIRST, &again, &read, &mut over)?;
+    wear(&rt, &mut array, FIRST, &sent)?;
+    let mut array = Linked::new(array, Table::new());
+    exchange(&rt, &mut array, FIRST as u16, SECOND as u16)?;
+    program(&rt, &mut array, FIRST, &sent, &blank, &mut over)?;
+    let main = Memory::new(&mut bytes, BLOCKS, PAGES);
+    seal(&rt, main, Memory::new(&mut otp, 1, 16))?;
+    dump(&rt, &bytes, SECOND, &sent, &mut read)?;
     Ok(())
 }

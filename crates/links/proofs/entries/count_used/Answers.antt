@@ -4,15 +4,15 @@ use Rattle.std.proofs.lemmas.Bool.{cond-true, cond-false}
 use Rattle.links.specs.Links.{used}
 use Rattle.links.specs.declared.entry.Entry.TheVariants.{Unused}
 use Rattle.links.proofs.entries.count_used.Goals as goal
-use Rattle.links.proofs.entries.count_used.Goals.{then-is-used, else-is-used}
+use Rattle.links.proofs.entries.count_used.Goals.{then-is_used, else-is_used}
 
 pub loop-e-preserved : goal.loop-e-preserved
 loop-e-preserved c =
     let rest = used (drop (c.loop-e.e-index + 1) c.args.entries.now) in
     let here = at_drop_more used c.args.entries.now c.loop-e.e-index Unused c.loop-e-test.true in
-    elim c.if-is-used.branch [
-      | then-is-used w ↦ let more = here ∙ cond-true _ (1 + rest) rest (sym w.if-is-used.ensures) in (omega (arith, w.count_is), omega (arith, w.count_is, more))
-      | else-is-used w ↦ let same = here ∙ cond-false _ (1 + rest) rest (sym w.if-is-used.ensures) in (omega (arith, w.count_is), omega (arith, w.count_is, same))
+    elim c.if-is_used.branch [
+      | then-is_used w ↦ let more = here ∙ cond-true _ (1 + rest) rest (sym w.if-is-used.ensures) in (omega (arith, w.count_is), omega (arith, w.count_is, more))
+      | else-is_used w ↦ let same = here ∙ cond-false _ (1 + rest) rest (sym w.if-is-used.ensures) in (omega (arith, w.count_is), omega (arith, w.count_is, same))
     ]
 
 pub returns : goal.returns

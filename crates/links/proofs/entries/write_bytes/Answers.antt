@@ -6,7 +6,7 @@ use Rattle.links.proofs.entries.write_bytes.Goals as goal
 
 pub loop-i-preserved : goal.loop-i-preserved
 loop-i-preserved c =
-    bytes_more c.args.entries.now c.loop-i.i _ c.loop-i.area _ c.loop-i-test.true (omega arith) (c.copy-from-slice.ensures.after ∙ c.bytes.ensures) c.loop-i.invariant
+    bytes_more c.args.entries.now c.loop-i.i _ c.loop-i.area _ c.loop-i-test.true (omega arith) (c.copy_from_slice.ensures.after ∙ c.bytes.ensures) c.loop-i.invariant
 
 pub returns : goal.returns
 returns c =

@@ -10,7 +10,7 @@ returns c =
     let a = c.args.first in
     let b = c.args.second in
     let es = c.args.entries.now in
-    let answer : not c.if-is-taken.result ≡ may_swap n a b es = search rules in
+    let answer : not c.if-is_taken.result ≡ may_swap n a b es = search rules in
     record {
       answer = answer;
       sound = λ s t. swapped_sound n a b es s (sym answer ∙ t);

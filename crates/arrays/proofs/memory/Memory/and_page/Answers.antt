@@ -30,11 +30,11 @@ returns c =
     let p = m.layout.pages in
     let xs = m.bytes.now in
     let new = c.args.bytes.now in
-    let at = c.page-start-at.result in
-    let e = c.page-start-at.ensures in
+    let at = c.page_start-at.result in
+    let e = c.page_start-at.ensures in
     let f = memory_page m c.args.block c.args.page _ c.requires in
     let k : at + 2112 - at ≡ 2112 = omega arith in
-    let z = c.and-into.ensures ∙ (λ i. zip2 bit_and (take (k i) (drop (e i) xs)) new) in
+    let z = c.and_into.ensures ∙ (λ i. zip2 bit_and (take (k i) (drop (e i) xs)) new) in
     record {
       after = (λ i. memory_store n p (put_mid (e i) (k i) xs (z i)))
           ∙ and_page n p xs new c.args.block c.args.page f.on.fitting f.on.inside f.within f.long;

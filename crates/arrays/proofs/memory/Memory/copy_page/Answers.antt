@@ -20,7 +20,7 @@ slice-bounds-copy-end c =
 
 pub returns : goal.returns
 returns c =
-    let at = c.page-start-at.result in
+    let at = c.page_start-at.result in
     let f = memory_page c.args.self.now c.args.block c.args.page _ c.requires in
     let k : at + 2112 - at ≡ 2112 = omega arith in
-    c.copy.ensures ∙ (λ i. take (k i) (drop (c.page-start-at.ensures i) c.args.self.now.bytes.now)) ∙ sym f.holds
+    c.copy.ensures ∙ (λ i. take (k i) (drop (c.page_start-at.ensures i) c.args.self.now.bytes.now)) ∙ sym f.holds

@@ -16,6 +16,6 @@ pub returns : goal.returns
 returns c =
     let m = c.args.self.now in
     let four : 4 * c.args.block + 4 - 4 * c.args.block ≡ 4 = omega arith in
-    c.number-in.ensures
+    c.number_in.ensures
     ∙ ap (λ k. number (take k (drop (4 * c.args.block) m.bytes.now))) four
     ∙ sym (memory_life m c.args.block (omega (arith, c.blocks-2.ensures.count)))

@@ -23,8 +23,8 @@ pub loop-block-preserved : goal.loop-block-preserved
 loop-block-preserved c =
     let i = c.loop-block.block in
     let was = c.loop-block.invariant in (
-      c.set-life.ensures.after
+      c.set_life.ensures.after
           ∙ ap (λ s. with_life s i c.args.life) (c.blank.ensures.after ∙ ap (λ s. blanked s i) was.0)
           ∙ renew_more (in_memory c.args.self.now) i c.args.life,
-      (c.set-life.ensures.place.0 ∙ c.blank.ensures.place.0 ∙ was.1.0, c.set-life.ensures.place.1 ∙ c.blank.ensures.place.1 ∙ was.1.1),
+      (c.set_life.ensures.place.0 ∙ c.blank.ensures.place.0 ∙ was.1.0, c.set_life.ensures.place.1 ∙ c.blank.ensures.place.1 ∙ was.1.1),
     )

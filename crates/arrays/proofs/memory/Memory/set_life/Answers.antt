@@ -32,7 +32,7 @@ returns c =
     let b = c.args.block in
     let on = memory_block m b c.requires in
     let four : 4 * b + 4 - 4 * b ≡ 4 = omega arith in
-    let made = c.copy.ensures ∙ c.to-be-bytes.ensures in
+    let made = c.copy.ensures ∙ c.to_be_bytes.ensures in
     record {
       after = (λ i. memory_store n p (put_mid (4 * b) (four i) xs c.copy.new.area))
           ∙ write_life n p xs c.copy.new.area b on.fitting on.inside (ap length made)

@@ -1,0 +1,13 @@
+use Rattle.std.proofs.Common.{length, ap, ◌∙◌}
+use Rattle.card.specs.Played.{chip_after_calls, answers_to}
+use Rattle.card.proofs.play.play_all.Goals as goal
+
+pub returns : goal.returns
+returns g c =
+    let calls = c.args.calls.now in
+    let n = length c.args.area.now in
+    record {
+      card = c.log-calls.ensures.chip ∙ ap (λ v. chip_after_calls v n calls) c.new_card.ensures.view;
+      answers = c.log-calls.ensures.log ∙ ap (λ v. answers_to v n calls) c.new_card.ensures.view;
+      law = c.new_card.ensures.law;
+    }
