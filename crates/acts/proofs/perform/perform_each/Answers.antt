@@ -12,13 +12,13 @@ use Rattle.acts.proofs.perform.perform_each.Goals as goal
 none : Act
 none = Send (record { ref_ptr = (0, 0); now = [] })
 
-pub returns-in-err-perform : goal.returns-in-err-perform
+pub returns-in_err-perform : goal.returns-in_err-perform
 unfolding none
-returns-in-err-perform g c =
+returns-in_err-perform g c =
     let here : Chip = view g.M.Array.meaning g.O.Array.meaning c.loop-i.card in
-    let p = err_from_is_err_and c.from-residual.result c.from-residual.ensures.1 in
-    let err : c.perform.result ≡ c.from-residual.result = c.in-err-perform.was ∙ sym (p.1 ∙ ap (λ x. Err x) p.2) in
-    let e = sym c.loop-i.invariant ∙ refused_at here c.args.low c.loop-i.area c.args.acts.now c.loop-i.i none c.loop-i-test.true c.in-err-perform.field-0.0 (sym c.perform.ensures.answer ∙ c.in-err-perform.was) in
+    let p = err_from_is_err_and c.from_residual.result c.from_residual.ensures.1 in
+    let err : c.perform.result ≡ c.from_residual.result = c.in_err-perform.was ∙ sym (p.1 ∙ ap (λ x. Err x) p.2) in
+    let e = sym c.loop-i.invariant ∙ refused_at here c.args.low c.loop-i.area c.args.acts.now c.loop-i.i none c.loop-i-test.true c.in_err-perform.field-0.0 (sym c.perform.ensures.answer ∙ c.in_err-perform.was) in
     record {
       chip = c.perform.ensures.chip ∙ sym (ap (λ (s : Course). s.chip) e);
       answer = sym err ∙ (c.perform.ensures.answer ∙ sym (ap (λ (s : Course). s.answer) e));
@@ -29,7 +29,7 @@ pub loop-i-preserved : goal.loop-i-preserved
 unfolding none
 loop-i-preserved g c =
     let here : Chip = view g.M.Array.meaning g.O.Array.meaning c.loop-i.card in
-    let on = taken_on here c.args.low c.loop-i.area c.args.acts.now c.loop-i.i none c.loop-i-test.true c.in-ok-perform.field-0 (sym c.perform.ensures.answer ∙ c.in-ok-perform.was) in
+    let on = taken_on here c.args.low c.loop-i.area c.args.acts.now c.loop-i.i none c.loop-i-test.true c.in_ok-perform.field-0 (sym c.perform.ensures.answer ∙ c.in_ok-perform.was) in
     (λ k. through (c.perform.ensures.chip k) c.args.low (c.perform.ensures.area k) (parts_of (drop (c.loop-i.i + 1) c.args.acts.now))) ∙ (sym on ∙ c.loop-i.invariant)
 
 pub returns : goal.returns

@@ -5,16 +5,16 @@ use Rattle.bench.specs.Steps.{erase_times, erases_done}
 use Rattle.bench.proofs.Erases.{one_more, no_more}
 use Rattle.bench.proofs.steps.erase_up_to.Goals as goal
 
-pub returns-then-not-erase-once : goal.returns-then-not-erase-once
-returns-then-not-erase-once g c =
+pub returns-then-not-erase_once : goal.returns-then-not-erase_once
+returns-then-not-erase_once g c =
     let s = g.A.Array.meaning c.args.array.now in
     let b = c.args.block in
     let k = c.loop-done.done in
     let was = c.loop-done.invariant in
-    let none = ap (λ (v : Store). has_block v b && lives v b) (sym was.0) ∙ sym c.if-not-erase-once.ensures.done in
+    let none = ap (λ (v : Store). has_block v b && lives v b) (sym was.0) ∙ sym c.if-not-erase_once.ensures.done in
     record {
       count = no_more s b k was.1 c.args.most c.loop-done-test.true none;
-      after = c.erase-once.ensures.after ∙ ap (λ v. after_erase v b) was.0 ∙ cond-false _ (erased (erase_times k s b) b) (erase_times k s b) none;
+      after = c.erase_once.ensures.after ∙ ap (λ v. after_erase v b) was.0 ∙ cond-false _ (erased (erase_times k s b) b) (erase_times k s b) none;
     }
 
 pub loop-done-preserved : goal.loop-done-preserved
@@ -23,8 +23,8 @@ loop-done-preserved g c =
     let b = c.args.block in
     let k = c.loop-done.done in
     let was = c.loop-done.invariant in (
-      c.erase-once.ensures.after ∙ ap (λ v. after_erase v b) was.0 ∙ ap (λ n. erase_times n s b) (sym (add-one k)),
-      one_more s b k was.1 (ap (λ (v : Store). has_block v b && lives v b) (sym was.0) ∙ sym c.if-not-erase-once.ensures.done),
+      c.erase_once.ensures.after ∙ ap (λ v. after_erase v b) was.0 ∙ ap (λ n. erase_times n s b) (sym (add-one k)),
+      one_more s b k was.1 (ap (λ (v : Store). has_block v b && lives v b) (sym was.0) ∙ sym c.if-not-erase_once.ensures.done),
     )
 
 pub returns : goal.returns

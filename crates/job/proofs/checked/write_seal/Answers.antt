@@ -8,7 +8,7 @@ pub returns : goal.returns
 returns g c =
     let before : Chip = view g.M.Array.meaning g.O.Array.meaning c.args.card.now in
     record {
-      chip = c.write-sr1.ensures.chip ∙ ap (λ v. (sr1_written before c.args.low v).chip) c.seal_byte.ensures;
-      outcome = c.write-sr1.ensures.outcome ∙ ap (λ v. (sr1_written before c.args.low v).outcome) c.seal_byte.ensures;
-      law = c.seals-stand-holds.ensures.law before c.args.low c.args.byte;
+      chip = c.write_sr1.ensures.chip ∙ ap (λ v. (sr1_written before c.args.low v).chip) c.seal_byte.ensures;
+      outcome = c.write_sr1.ensures.outcome ∙ ap (λ v. (sr1_written before c.args.low v).outcome) c.seal_byte.ensures;
+      law = c.seals_stand-holds.ensures.law before c.args.low c.args.byte;
     }

@@ -11,8 +11,8 @@ loop-e-preserved c =
     let rest = used (drop (c.loop-e.e-index + 1) c.args.entries.now) in
     let here = at_drop_more used c.args.entries.now c.loop-e.e-index Unused c.loop-e-test.true in
     elim c.if-is_used.branch [
-      | then-is_used w ↦ let more = here ∙ cond-true _ (1 + rest) rest (sym w.if-is-used.ensures) in (omega (arith, w.count_is), omega (arith, w.count_is, more))
-      | else-is_used w ↦ let same = here ∙ cond-false _ (1 + rest) rest (sym w.if-is-used.ensures) in (omega (arith, w.count_is), omega (arith, w.count_is, same))
+      | then-is_used w ↦ let more = here ∙ cond-true _ (1 + rest) rest (sym w.if-is_used.ensures) in (omega (arith, w.count-is), omega (arith, w.count-is, more))
+      | else-is_used w ↦ let same = here ∙ cond-false _ (1 + rest) rest (sym w.if-is_used.ensures) in (omega (arith, w.count-is), omega (arith, w.count-is, same))
     ]
 
 pub returns : goal.returns

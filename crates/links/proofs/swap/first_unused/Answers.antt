@@ -4,9 +4,9 @@ use Rattle.links.specs.Links.{full}
 use Rattle.links.proofs.Placing.{full_more, place_at, place_full}
 use Rattle.links.proofs.swap.first_unused.Goals as goal
 
-pub returns-then-not-is-used : goal.returns-then-not-is-used
-returns-then-not-is-used c =
-    (c.loop-i-test.true, λ a b. place_at a b c.args.entries.now c.loop-i.i c.loop-i.invariant (sym c.if-not-is-used.ensures))
+pub returns-then-not-is_used : goal.returns-then-not-is_used
+returns-then-not-is_used c =
+    (c.loop-i-test.true, λ a b. place_at a b c.args.entries.now c.loop-i.i c.loop-i.invariant (sym c.if-not-is_used.ensures))
 
 pub loop-i-preserved : goal.loop-i-preserved
 loop-i-preserved c = search (rules, full_more)

@@ -7,8 +7,8 @@ returns g c =
     let calls = c.args.calls.now in
     let n = length c.args.area.now in
     record {
-      card = c.log-calls.ensures.chip ∙ ap (λ v. chip_after_calls v n calls) c.new_card.ensures.view;
-      answers = c.log-calls.ensures.log ∙ ap (λ v. answers_to v n calls) c.new_card.ensures.view;
-      area = c.log-calls.ensures.area ∙ ap (λ v. area_after_calls v n calls c.args.area.now) c.new_card.ensures.view;
-      law = c.new_card.ensures.law;
+      card = c.log_calls.ensures.chip ∙ ap (λ v. chip_after_calls v n calls) c.new-card.ensures.view;
+      answers = c.log_calls.ensures.log ∙ ap (λ v. answers_to v n calls) c.new-card.ensures.view;
+      area = c.log_calls.ensures.area ∙ ap (λ v. area_after_calls v n calls c.args.area.now) c.new-card.ensures.view;
+      law = c.new-card.ensures.law;
     }

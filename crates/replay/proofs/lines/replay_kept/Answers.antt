@@ -13,8 +13,8 @@ of_whole P bytes text whole p q h = subst P (ap request_in (p ∙ q) ∙ cut_is_
 pub returns : goal.returns
 returns g c =
     let before = view g.M.Array.meaning g.O.Array.meaning c.args.card.now in
-    let after = view g.M.Array.meaning g.O.Array.meaning c.replay-line.new.card in
+    let after = view g.M.Array.meaning g.O.Array.meaning c.replay_line.new.card in
     record {
-      chip = λ whole e. of_whole (λ q. after ≡ chip_after_any before q) c.as-bytes.result.now (written c.args.line.now) whole c.as-bytes.ensures e c.replay-line.ensures.chip;
-      text = λ whole e. of_whole (λ q. written c.replay-line.result ≡ text_after_any before q) c.as-bytes.result.now (written c.args.line.now) whole c.as-bytes.ensures e c.replay-line.ensures.text;
+      chip = λ whole e. of_whole (λ q. after ≡ chip_after_any before q) c.as_bytes.result.now (written c.args.line.now) whole c.as_bytes.ensures e c.replay_line.ensures.chip;
+      text = λ whole e. of_whole (λ q. written c.replay_line.result ≡ text_after_any before q) c.as_bytes.result.now (written c.args.line.now) whole c.as_bytes.ensures e c.replay_line.ensures.text;
     }

@@ -2,4 +2,4 @@ use Rattle.seals.proofs.Standing.{standing}
 use Rattle.seals.proofs.law.prove_standing.Goals as goal
 
 pub returns : goal.returns
-returns c = standing c.sealed-calibration-holds-holds.ensures.law
+returns c = standing c.sealed_calibration_holds-holds.ensures.law

@@ -9,5 +9,5 @@ loop-digit-preserved c = search (rules, at_drop_more all_hex)
 pub returns : goal.returns
 returns c = search (rules, at_drop_all all_hex)
 
-pub returns-then-not-is-hex : goal.returns-then-not-is-hex
-returns-then-not-is-hex c = search (rules, at_drop_more all_hex)
+pub returns-then-not-is_hex : goal.returns-then-not-is_hex
+returns-then-not-is_hex c = search (rules, at_drop_more all_hex)

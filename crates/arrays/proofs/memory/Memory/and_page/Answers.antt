@@ -7,20 +7,20 @@ use Rattle.arrays.proofs.Found.{memory_page}
 use Rattle.arrays.proofs.Written.{and_page}
 use Rattle.arrays.proofs.memory.Memory.and_page.Goals as goal
 
-pub page-start-at-requires : goal.page-start-at-requires
-page-start-at-requires c =
+pub page_start-at-requires : goal.page_start-at-requires
+page_start-at-requires c =
     let f = memory_page c.args.self.now c.args.block c.args.page _ c.requires in
     (f.on.sized.n_most, (f.on.sized.p_most, (f.on.inside, f.within)))
 
-pub overflow-add-at : goal.overflow-add-at
-overflow-add-at c =
+pub overflow_add-at : goal.overflow_add-at
+overflow_add-at c =
     let f = memory_page c.args.self.now c.args.block c.args.page _ c.requires in
-    omega (arith, f.ends, f.on.sized.most, c.page-start-at.ensures)
+    omega (arith, f.ends, f.on.sized.most, c.page_start-at.ensures)
 
-pub slice-bounds-and-into-end : goal.slice-bounds-and-into-end
-slice-bounds-and-into-end c =
+pub slice_bounds-and_into-end : goal.slice_bounds-and_into-end
+slice_bounds-and_into-end c =
     let f = memory_page c.args.self.now c.args.block c.args.page _ c.requires in
-    let h : c.page-start-at.result + 2112 ≤ length c.args.self.now.bytes.now = omega (arith, f.ends, c.page-start-at.ensures) in
+    let h : c.page_start-at.result + 2112 ≤ length c.args.self.now.bytes.now = omega (arith, f.ends, c.page_start-at.ensures) in
     search rules
 
 pub returns : goal.returns

@@ -7,28 +7,28 @@ use Rattle.arrays.proofs.Places.{block_ends}
 use Rattle.arrays.proofs.Written.{blank_block}
 use Rattle.arrays.proofs.memory.Memory.blank.Goals as goal
 
-pub block-start-at-requires : goal.block-start-at-requires
-block-start-at-requires c =
+pub block_start-at-requires : goal.block_start-at-requires
+block_start-at-requires c =
     let on = memory_block c.args.self.now c.args.block c.requires in
     (on.sized.n_most, (on.sized.p_most, on.inside))
 
-pub overflow-mul-end : goal.overflow-mul-end
-overflow-mul-end c =
+pub overflow_mul-end : goal.overflow_mul-end
+overflow_mul-end c =
     let on = memory_block c.args.self.now c.args.block c.requires in
     omega (arith, on.sized.p_most)
 
-pub overflow-add-end : goal.overflow-add-end
-overflow-add-end c =
+pub overflow_add-end : goal.overflow_add-end
+overflow_add-end c =
     let m = c.args.self.now in
     let on = memory_block m c.args.block c.requires in
-    omega (arith, block_ends m.layout.blocks m.layout.pages c.args.block (length m.bytes.now) on.inside on.sized.long, on.sized.most, c.block-start-at.ensures)
+    omega (arith, block_ends m.layout.blocks m.layout.pages c.args.block (length m.bytes.now) on.inside on.sized.long, on.sized.most, c.block_start-at.ensures)
 
-pub slice-bounds-fill-end : goal.slice-bounds-fill-end
-slice-bounds-fill-end c =
+pub slice_bounds-fill-end : goal.slice_bounds-fill-end
+slice_bounds-fill-end c =
     let m = c.args.self.now in
     let on = memory_block m c.args.block c.requires in
-    let h : c.block-start-at.result + 2112 * m.layout.pages ≤ length m.bytes.now
-    = omega (arith, block_ends m.layout.blocks m.layout.pages c.args.block (length m.bytes.now) on.inside on.sized.long, c.block-start-at.ensures) in
+    let h : c.block_start-at.result + 2112 * m.layout.pages ≤ length m.bytes.now
+    = omega (arith, block_ends m.layout.blocks m.layout.pages c.args.block (length m.bytes.now) on.inside on.sized.long, c.block_start-at.ensures) in
     search rules
 
 pub returns : goal.returns

@@ -5,8 +5,8 @@ use Rattle.arrays.specs.Kinds.{in_memory}
 use Rattle.arrays.proofs.Found.{memory_block, memory_life}
 use Rattle.arrays.proofs.memory.Memory.life.Goals as goal
 
-pub slice-bounds-number-in-end : goal.slice-bounds-number-in-end
-slice-bounds-number-in-end c =
+pub slice_bounds-number_in-end : goal.slice_bounds-number_in-end
+slice_bounds-number_in-end c =
     let m = c.args.self.now in
     let on = memory_block m c.args.block (omega (arith, c.blocks-2.ensures.count)) in
     let h : 4 * c.args.block + 4 ≤ length m.bytes.now = omega (arith, on.sized.long, on.inside) in

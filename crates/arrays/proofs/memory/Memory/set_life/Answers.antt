@@ -6,18 +6,18 @@ use Rattle.arrays.proofs.Found.{memory_block}
 use Rattle.arrays.proofs.Written.{write_life, number_digits}
 use Rattle.arrays.proofs.memory.Memory.set_life.Goals as goal
 
-pub overflow-mul-at : goal.overflow-mul-at
-overflow-mul-at c =
+pub overflow_mul-at : goal.overflow_mul-at
+overflow_mul-at c =
     let on = memory_block c.args.self.now c.args.block c.requires in
     omega (arith, on.sized.n_most, on.inside)
 
-pub overflow-add-at : goal.overflow-add-at
-overflow-add-at c =
+pub overflow_add-at : goal.overflow_add-at
+overflow_add-at c =
     let on = memory_block c.args.self.now c.args.block c.requires in
     omega (arith, on.sized.n_most, on.inside)
 
-pub slice-bounds-copy-end : goal.slice-bounds-copy-end
-slice-bounds-copy-end c =
+pub slice_bounds-copy-end : goal.slice_bounds-copy-end
+slice_bounds-copy-end c =
     let m = c.args.self.now in
     let on = memory_block m c.args.block c.requires in
     let h : 4 * c.args.block + 4 ≤ length m.bytes.now = omega (arith, on.sized.long, on.inside) in

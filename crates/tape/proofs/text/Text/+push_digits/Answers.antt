@@ -10,8 +10,8 @@ returns-then-number-lt10 t c =
     let small = length_one c.args.number (omega arith) in
     record { text = number_one _ _ c.args.number (omega arith) c.push.ensures.text; filled = omega arith }
 
-pub push-digits-requires : goal.push-digits-requires
-push-digits-requires t c =
+pub push_digits-requires : goal.push_digits-requires
+push_digits-requires t c =
     let more = length_more c.args.number (omega arith) (omega arith) in
     (omega arith, omega arith)
 
@@ -22,6 +22,6 @@ pub returns : goal.returns
 returns t c =
     let more = length_more c.args.number (omega arith) (omega arith) in
     record {
-      text = number_more _ _ _ c.args.number (omega arith) (omega arith) c.push-digits.ensures.text c.push-2.ensures.text;
+      text = number_more _ _ _ c.args.number (omega arith) (omega arith) c.push_digits.ensures.text c.push-2.ensures.text;
       filled = omega arith;
     }
