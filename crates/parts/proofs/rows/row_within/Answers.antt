@@ -5,4 +5,4 @@ use Rattle.parts.proofs.rows.row_within.Goals as goal
 pub returns-in-None : goal.returns-in-None
 returns-in-None c =
     let below : c.args.row < c.args.blocks * c.args.pages = omega (arith, c.in-None.ensures) in
-    c.from_row.ensures ∙ sym (mod-eq_of_lt below)
+    c.from-row.ensures ∙ sym (mod-eq_of_lt below)
