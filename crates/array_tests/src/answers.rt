@@ -78,6 +78,7 @@ fn try_case(bytes: &mut [u8], blocks: usize, pages: usize, case: Case, area: &mu
 fn try_all(
     rt: &impl Abort,
     heap: Global,
+    what: &str,
     blocks: usize,
     pages: usize,
     length: usize,
@@ -86,7 +87,10 @@ fn try_all(
     let mut bytes = vec![in heap; 0u8; length]?;
     for case in cases {
         let mut area = vec![in heap; 0u8; case.3]?;
-        assert!(rt; try_case(&mut bytes, blocks, pages, *case, &mut area));
+        assert!(rt;
+            try_case(&mut bytes, blocks, pages, *case, &mut area),
+            "{what}"
+        );
     }
     Ok(())
 }
@@ -94,7 +98,15 @@ fn try_all(
 #[test]
 fn arrays_answer(rt: HostRuntime) -> Result<(), Fail> {
     let heap = rt.alloc();
-    try_all(&rt, heap, 1, 1, 2_116, &SMALLEST).note("1 block of 1 page")?;
-    try_all(&rt, heap, 4, 2, 16_912, &BETWEEN).note("4 blocks of 2 pages")?;
-    try_all(&rt, heap, 1_024, 64, 138_416_128, &LARGEST).note("1,024 blocks of 64 pages")
+    try_all(&rt, heap, "1 block of 1 page", 1, 1, 2_116, &SMALLEST)?;
+    try_all(&rt, heap, "4 blocks of 2 pages", 4, 2, 16_912, &BETWEEN)?;
+    try_all(
+        &rt,
+        heap,
+        "1,024 blocks of 64 pages",
+        1_024,
+        64,
+        138_416_128,
+        &LARGEST,
+    )
 }

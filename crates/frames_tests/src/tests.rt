@@ -9,12 +9,12 @@ fn agrees(rt: &impl Abort, code: u8, sent: &[u8]) -> Result<(), Fail> {
     let answer = decode(sent);
     assert!(rt;
         seen(answer) == expected(code, sent.len()),
-        "{}",
+        "code {code}, {} bytes",
         sent.len()
     );
     match sent {
         [_, _, _, data @ ..] => {
-            assert_eq!(rt; data_or(answer, data), data);
+            assert_eq!(rt; data_or(answer, data), data, "code {code}");
             Ok(())
         },
         _ => Ok(()),
@@ -33,7 +33,7 @@ fn agrees_at_each_length(rt: &impl Abort, code: u8) -> Result<(), Fail> {
 #[test]
 fn every_code_at_every_length(rt: HostRuntime) -> Result<(), Fail> {
     for code in 0..=255 {
-        agrees_at_each_length(&rt, code).note(code)?;
+        agrees_at_each_length(&rt, code)?;
     }
     Ok(())
 }
