@@ -1,5 +1,5 @@
 -- What the calls find in the bytes of an array of n blocks of p pages.
-use Rattle.std.proofs.Common.{◌≡◌, ℕ, ◌+◌, ◌*◌, ◌<◌, ◌≤◌, Bool, true, false, cond, ◌&&◌, eqb, ltb, List, length, sym, refl, ap, ◌∙◌, arith}
+use Rattle.std.proofs.Common.{◌≡◌, ℕ, ◌+◌, ◌<◌, ◌≤◌, Bool, true, false, cond, ◌&&◌, eqb, ltb, List, length, refl, ap, ◌∙◌, arith}
 use Rattle.arrays.specs.declared.memory.Memory.{Memory}
 use Rattle.arrays.specs.declared.dump.Dump.{Dump}
 use Rattle.arrays.specs.Kinds.{in_memory, in_dump}

@@ -1,5 +1,5 @@
 -- Where the pages lie: each within the bytes, and no two at one place.
-use Rattle.std.proofs.Common.{◌≡◌, ℕ, ◌+◌, ◌*◌, ◌/◌, ◌%◌, ◌<◌, ◌≤◌, Bool, true, false, ◌&&◌, eqb, ltb, leb, sym, refl, ap, ◌∙◌, mul_comm, add-mul, arith}
+use Rattle.std.proofs.Common.{◌≡◌, ℕ, ◌+◌, ◌*◌, ◌/◌, ◌%◌, ◌<◌, ◌≤◌, true, ◌&&◌, eqb, leb, sym, ap, ◌∙◌, mul_comm, add-mul, arith}
 use lib.Count.{ones}
 use Rattle.std.proofs.lemmas.Nat.{mul-add-lt, div-mul-add, mod-mul-add, mul-le}
 use Rattle.std.proofs.lemmas.Bool.{and_parts, leb-true, eqb-true}

@@ -1,9 +1,9 @@
 -- What lies in bytes has an array's shape.
-use Rattle.std.proofs.Common.{◌≡◌, ℕ, suc, ◌+◌, ◌^◌, ◌<◌, ◌≤◌, Bool, true, false, cond, ◌&&◌, ltb, ◌⊎◌, List, [], length, get_or, drop, refl, ap, ◌∙◌, inl, inr, ⊎_elim, arith, length-take}
+use Rattle.std.proofs.Common.{◌≡◌, ℕ, ◌+◌, ◌^◌, ◌<◌, ◌≤◌, true, ◌&&◌, ltb, List, [], length, get_or, drop, refl, ap, ◌∙◌, inl, inr, ⊎_elim, arith, length-take}
 use lib.Count.{ones}
 use Rattle.std.proofs.lemmas.List.{get_or-take, get_or-drop, get_or_past}
 use Rattle.std.proofs.lemmas.Bool.{cases_lt, cond-true, cond-false, cond_both, and_from, and_left, and_right, lt-ltb, le-ltb}
-use Rattle.arrays.specs.Store.{Store, Shape, Power, nothing}
+use Rattle.arrays.specs.Store.{Shape, Power, nothing}
 use Rattle.arrays.specs.Layout.{part, at_page, fits, page_in, life_in, laid, memory_store, dump_store}
 use Rattle.arrays.proofs.Pieces.{length_part}
 use Rattle.arrays.proofs.Places.{fit, page_ends}

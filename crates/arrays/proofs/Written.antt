@@ -1,5 +1,5 @@
 -- What a write to the bytes of a memory array makes of its store: an AND over a page, FFh over a block, a life.
-use Rattle.std.proofs.Common.{◌≡◌, ℕ, ◌+◌, ◌-◌, ◌*◌, ◌/◌, ◌%◌, ◌<◌, ◌≤◌, Bool, true, false, cond, ◌&&◌, eqb, ltb, List, [], ◌∷◌, length, take, drop, replicate, sym, refl, ap, ◌∙◌, ⊎_elim, arith}
+use Rattle.std.proofs.Common.{◌≡◌, ℕ, ◌+◌, ◌*◌, ◌/◌, ◌%◌, ◌<◌, ◌≤◌, Bool, true, false, cond, ◌&&◌, eqb, ltb, List, [], ◌∷◌, length, replicate, sym, refl, ap, ◌∙◌, ⊎_elim, arith}
 use lib.Bits.{bit_and}
 use lib.ListN.{length-replicate}
 use lib.Lanes.{zip2}
@@ -7,7 +7,7 @@ use borrow.Rule.Slice.PartMut.{put_mid}
 use Rattle.std.proofs.lemmas.Simd.{length-zip2}
 use Rattle.std.proofs.lemmas.Nat.{shr-shr, div-add-mod'}
 use Rattle.std.proofs.lemmas.Bool.{cases_Bool, cases_order, cond-true, cond-false, and_parts, and_from, eqb-true, eq-eqb, ne_eqb, ltb-true, lt-ltb, both_ways}
-use Rattle.arrays.specs.Store.{Store, programmed, blanked, with_life}
+use Rattle.arrays.specs.Store.{programmed, blanked, with_life}
 use Rattle.arrays.specs.Layout.{part, number, at_page, at_block, at_life, fits, page_in, life_in, memory_store}
 use Rattle.arrays.proofs.Pieces.{length_part, part_below, part_above, part_same, part_inside, part_replicate, length_put}
 use Rattle.arrays.proofs.Places.{same_block, same_page, place_below, block_above, Fit, fit, page_ends, block_ends}

@@ -3,7 +3,7 @@ use Rattle.arrays.specs.Store.{Store}
 use Rattle.std.specs.Prelude.{cond}
 use Rattle.rules.specs.declared.operation.Place.TheVariants.{Main}
 use Rattle.rules.specs.Operations.{loaded}
-use Rattle.rules.specs.Chip.{Lasting, Passing, Chip, fit, blank_buffer, with_buffer}
+use Rattle.rules.specs.Chip.{Passing, Chip, fit, blank_buffer, with_buffer}
 use Rattle.card.specs.declared.card.Card.{Card}
 
 -- `m` and `o` give the meanings of the main array and of the OTP array

@@ -1,5 +1,5 @@
 -- What the sent bytes tell: the instruction with its values, whether its code is listed and the count of bytes right, and its flags.
-use Rattle.std.specs.Prelude.{ℕ, ◌+◌, ◌*◌, ◌%◌, Bool, true, false, cond, List, [], ◌∷◌, length, drop, is_some, Some, None, Ok, Err, Option, Result, slice_index}
+use Rattle.std.specs.Prelude.{ℕ, ◌+◌, ◌*◌, ◌%◌, Bool, false, cond, List, [], ◌∷◌, length, drop, is_some, Some, None, Ok, Err, Option, Result, slice_index}
 use Rattle.frames.specs.declared.instruction.Simple.{Simple}
 use Rattle.frames.specs.declared.instruction.RowOperation.{RowOperation}
 use Rattle.frames.specs.declared.refusal.FrameRefusal.{FrameRefusal}

@@ -1,9 +1,9 @@
 -- What a linked array shows, and what the calls of the array below do to it.
-use Rattle.std.proofs.Common.{◌≡◌, ℕ, ◌-◌, ◌<◌, ◌≤◌, Bool, true, false, cond, ◌&&◌, eqb, ltb, ◌⊎◌, List, [], ◌∷◌, length, replicate, sym, refl, ap, ◌∙◌, subst, inl, inr, ⊎_elim, arith}
+use Rattle.std.proofs.Common.{◌≡◌, ℕ, ◌-◌, ◌≤◌, Bool, true, false, cond, ◌&&◌, eqb, ltb, List, length, replicate, sym, refl, ap, ◌∙◌, subst, inl, inr, ⊎_elim}
 use lib.Bits.{bit_and}
 use lib.Lanes.{zip2}
-use Rattle.std.proofs.lemmas.Bool.{cases_lt, cases_eq, cond-true, lt-ltb, le-ltb, eq-eqb, ne_eqb}
-use Rattle.arrays.specs.Store.{Store, Shape, page_size, has_block, present, lives, read_answer, write_answer, area_after, programmed, erased, after_program, after_erase}
+use Rattle.std.proofs.lemmas.Bool.{cases_lt, cases_eq, lt-ltb, eq-eqb, ne_eqb}
+use Rattle.arrays.specs.Store.{Store, Shape, page_size, has_block, present, lives, read_answer, write_answer, programmed, erased, after_program, after_erase}
 use Rattle.links.specs.declared.entry.Entry.{Entry}
 use Rattle.links.specs.Links.{sound, reach}
 use Rattle.linked.specs.Shown.{shown, Through}

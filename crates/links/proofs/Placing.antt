@@ -1,8 +1,8 @@
 -- Where a new link is placed.
-use Rattle.std.proofs.Common.{◌≡◌, ℕ, zero, suc, ◌+◌, ◌<◌, ◌≤◌, Bool, true, false, cond, ◌&&◌, List, [], ◌∷◌, length, get_or, take, set, sym, refl, ap, ◌∙◌, add-one, arith}
+use Rattle.std.proofs.Common.{◌≡◌, ℕ, zero, suc, ◌+◌, true, false, List, [], ◌∷◌, get_or, take, set, refl, ap, ◌∙◌, add-one}
 use Rattle.std.proofs.lemmas.Bool.{and_parts, and_from, cond-true, cond-false}
 use Rattle.links.specs.declared.entry.Entry.{Entry}
-use Rattle.links.specs.declared.entry.Entry.TheVariants.{Unused, Live, Retired}
+use Rattle.links.specs.declared.entry.Entry.TheVariants.{Unused, Live}
 use Rattle.links.specs.Links.{is_used, full, place}
 
 -- one more used entry

@@ -1,11 +1,11 @@
 -- What addresses reach: reach is its own inverse while no address is twice in live links.
-use Rattle.std.proofs.Common.{◌≡◌, ℕ, ◌<◌, ◌≤◌, Bool, true, false, cond, not, ◌&&◌, ◌||◌, eqb, ltb, List, [], ◌∷◌, Some, None, Option, unwrap_or, sym, refl, ap, ◌∙◌, subst, ⊎_elim, arith}
+use Rattle.std.proofs.Common.{◌≡◌, ℕ, ◌<◌, ◌≤◌, Bool, true, false, cond, not, ◌&&◌, ◌||◌, eqb, ltb, List, [], ◌∷◌, Some, None, unwrap_or, sym, refl, ap, ◌∙◌, subst, ⊎_elim, arith}
 use Rattle.std.specs.Option.{option_or}
 use Rattle.std.proofs.lemmas.Bool.{or_parts, and_parts, not-true, cases_Bool, cond_both, cond-true, cond-false, eqb-true, eqb-false}
 use Rattle.std.proofs.lemmas.Bool.Decides.{nat_tests}
 use Rattle.links.specs.declared.entry.Entry.{Entry}
 use Rattle.links.specs.declared.entry.Entry.TheVariants.{Unused, Live, Retired}
-use Rattle.links.specs.Links.{linked, unused_last, apart, sound, exchange, other, partner, reach}
+use Rattle.links.specs.Links.{linked, unused_last, apart, sound, exchange, partner, reach}
 use Rattle.links.specs.LinkLaws.{Paired}
 
 -- ---- one live link before others

@@ -1,13 +1,13 @@
 -- What a finished swap makes of reach: it turns the two addresses and the first one's former partner, and no other.
-use Rattle.std.proofs.Common.{◌≡◌, ℕ, ◌<◌, ◌≤◌, Bool, true, false, cond, not, ◌&&◌, ◌||◌, eqb, ltb, ◌⊎◌, List, [], ◌∷◌, Some, None, Option, unwrap_or, sym, refl, ap, ◌∙◌, subst, inl, inr, ⊎_elim, arith}
+use Rattle.std.proofs.Common.{◌≡◌, ℕ, ◌<◌, Bool, true, false, cond, ◌&&◌, eqb, ltb, ◌⊎◌, List, [], ◌∷◌, Some, None, Option, unwrap_or, sym, refl, ap, ◌∙◌, subst, inl, inr, ⊎_elim, arith}
 use Rattle.std.specs.Option.{option_or}
 use Rattle.std.proofs.lemmas.Bool.{both_ways, cases_Bool, cases_eq, cond_both, cond-true, and_from, lt-ltb, eqb-true, eqb-false, eq-eqb}
 use Rattle.std.proofs.lemmas.Bool.Decides.{nat_tests}
 use Rattle.links.specs.declared.entry.Entry.{Entry}
 use Rattle.links.specs.declared.entry.Entry.TheVariants.{Unused, Live, Retired}
-use Rattle.links.specs.Links.{full, linked, second, apart, sound, exchange, partner, reach, may_swap, retire, place, swapped}
+use Rattle.links.specs.Links.{full, linked, apart, sound, exchange, partner, reach, may_swap, retire, place, swapped}
 use Rattle.links.specs.LinkLaws.{Turned}
-use Rattle.links.proofs.Reaching.{Free, free, sound_apart, exchange_by, exchange_other, reach_live, reach_exchanges, reach_passes, reach_free, reach_back, reach_one, partner_reach}
+use Rattle.links.proofs.Reaching.{free, sound_apart, exchange_by, exchange_other, reach_live, reach_exchanges, reach_passes, reach_free, reach_back, reach_one, partner_reach}
 use Rattle.links.proofs.Swapping.{Allowed, allowed, full_retire, retire_none, retire_apart, not_first, not_second, not_later, swapped_free}
 
 -- what the partner by a live link and others can be

@@ -1,4 +1,4 @@
-use Rattle.std.proofs.Common.{◌≡◌, false, cond, ◌&&◌, sym, ap, ◌∙◌, add-one, arith}
+use Rattle.std.proofs.Common.{◌≡◌, ◌&&◌, sym, ap, ◌∙◌, add-one, arith}
 use Rattle.std.proofs.lemmas.Bool.{cond-false}
 use Rattle.arrays.specs.Store.{Store, has_block, lives, erased, after_erase}
 use Rattle.bench.specs.Steps.{erase_times, erases_done}

@@ -1,7 +1,5 @@
-use Rattle.std.proofs.Common.{◌≡◌, ◌+◌, ◌-◌, ◌*◌, ◌<◌, ◌≤◌, length, take, drop, sym, ap, ◌∙◌, arith, rules}
-use Rattle.arrays.specs.Store.{Store}
+use Rattle.std.proofs.Common.{◌≡◌, ◌+◌, ◌-◌, ◌*◌, ◌≤◌, length, take, drop, sym, ap, ◌∙◌, arith, rules}
 use Rattle.arrays.specs.Layout.{number}
-use Rattle.arrays.specs.Kinds.{in_memory}
 use Rattle.arrays.proofs.Found.{memory_block, memory_life}
 use Rattle.arrays.proofs.memory.Memory.life.Goals as goal
 

@@ -1,4 +1,4 @@
-use Rattle.std.proofs.Common.{arith, rules}
+use Rattle.std.proofs.Common.{arith}
 use Rattle.tape.proofs.Writing.{length_one, length_more, number_one, number_more}
 use Rattle.tape.proofs.text.Text.+push_digits.Goals as goal
 

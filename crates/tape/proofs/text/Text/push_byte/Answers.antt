@@ -1,4 +1,4 @@
-use Rattle.std.proofs.Common.{◌≡◌, arith}
+use Rattle.std.proofs.Common.{arith}
 use Rattle.tape.proofs.Writing.{two_more}
 use Rattle.tape.proofs.text.Text.push_byte.Goals as goal
 

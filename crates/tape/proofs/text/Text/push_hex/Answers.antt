@@ -1,4 +1,4 @@
-use Rattle.std.proofs.Common.{length, arith, rules}
+use Rattle.std.proofs.Common.{arith, rules}
 use Rattle.std.proofs.lemmas.List.{take_all}
 use Rattle.tape.proofs.Writing.{hex_more}
 use Rattle.tape.proofs.text.Text.push_hex.Goals as goal

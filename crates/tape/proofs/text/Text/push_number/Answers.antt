@@ -1,4 +1,4 @@
-use Rattle.std.proofs.Common.{arith, lit<, rules}
+use Rattle.std.proofs.Common.{arith, lit<}
 use Rattle.std.proofs.lemmas.Fmt.{length-decimal-le}
 use Rattle.tape.proofs.text.Text.push_number.Goals as goal
 

@@ -1,4 +1,4 @@
-use Rattle.std.proofs.Common.{[], decimal, ◌∙◌, arith, rules}
+use Rattle.std.proofs.Common.{[], decimal, arith, rules}
 use Rattle.tape.proofs.Writing.{blank_between}
 use Rattle.tape.proofs.text.Text.with_counts.Goals as goal
 
