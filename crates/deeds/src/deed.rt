@@ -7,8 +7,8 @@ ghost use Rattle.deeds.specs.Sequences.{fetching};
 
 use crate::judge::{told_at, unless_different, unless_worn};
 use crate::sequences::{begin, fetch, program};
-use arrays::array::{Array, PAGE};
-use card::card::Card;
+use arrays::array::Array;
+use card::card::{Card, PAGE};
 use faults::fault::{Cause, Fault};
 
 // Resets the card, and answers the SR-1 that it clears.

@@ -9,8 +9,8 @@ use Rattle.rules.specs.declared.refusal.Outcome.{Outcome}
 use Rattle.rules.specs.declared.refusal.Outcome.TheVariants.{Taken, Refused}
 use Rattle.rules.specs.Registers.{is_sr1, is_sr2, power_lock}
 use Rattle.rules.specs.Seal.{covers}
-use Rattle.rules.specs.Chip.{Chip, outline}
-use Rattle.rules.specs.Calls.{passing_after}
+use Rattle.rules.specs.Chip.{Chip}
+use Rattle.rules.specs.Calls.{chip_after}
 use Rattle.rules.specs.Book.{Book, Ledger, Wait, no_wait, awaiting, Due, swap_of, erase_of, lock_of, noted_row, noted_by, noted_write, settled, ticked_by}
 use Rattle.rules.specs.Law.{Call, transaction, one_step, power_cycled, Moment, next, new, Run, rest, then, Throughout, Sealed, NoPowerCycle, page_at, Calibrated, SealedCalibration}
 use Rattle.seals.specs.SealedVisit.{seal_byte, sr1_written, sealing, seal_call, Stood, Stands, SealsStand}
@@ -91,8 +91,8 @@ module _ (law : SealedCalibration) (main otp : Store) (main_shape : Shape main) 
 -- ---- a seal
 
 -- SR-1 is what a taken write of SR-1 writes
-written : (c : Chip) (o : Outcome) (v : ℕ) → o ≡ Taken → (passing_after (outline c.lasting) c.passing (write_register 160 v) o).sr1 ≡ v
-written c o v e = ap (λ z. (passing_after (outline c.lasting) c.passing (write_register 160 v) z).sr1) e
+written : (c : Chip) (o : Outcome) (v : ℕ) → o ≡ Taken → (chip_after c (write_register 160 v) o).passing.sr1 ≡ v
+written c o v e = ap (λ z. (chip_after c (write_register 160 v) z).passing.sr1) e
 
 pub standing : SealedCalibration → SealsStand
 unfolding sr1_written
