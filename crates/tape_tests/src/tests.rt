@@ -58,7 +58,7 @@ fn longest_record(rt: HostRuntime) {
 
 #[test]
 fn answers(rt: HostRuntime) {
-    assert!(rt; Text::unknown().as_bytes() == b"??");
+    assert!(rt; Text::unknown().as_bytes() == b"??".as_slice());
     for (number, text) in NUMBERS {
         assert!(rt; Text::number(number).as_bytes() == text, "{}", number);
     }
