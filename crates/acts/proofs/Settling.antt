@@ -1,11 +1,10 @@
 -- One step of those until the card is idle.
-use Rattle.std.proofs.Common.{◌≡◌, ℕ, suc, ◌-◌, ◌<◌, ◌≤◌, max, ltb, List, sym, refl, ap, ◌∙◌, arith, le-ltb, lt-ltb}
+use Rattle.std.proofs.Common.{◌≡◌, ℕ, suc, ◌-◌, ◌<◌, max, ltb, List, sym, refl, ap, ◌∙◌, arith, lt-ltb}
 use Rattle.std.proofs.lemmas.Bool.{cond-true}
 use Rattle.rules.specs.declared.flags.Flags.{Flags}
 use Rattle.rules.specs.declared.operation.Pending.{Pending}
 use Rattle.rules.specs.declared.operation.Pending.TheVariants.{Idle, Doing}
-use Rattle.rules.specs.Chip.{Lasting, Chip, with_pending}
-use Rattle.rules.specs.Operations.{finished}
+use Rattle.rules.specs.Chip.{Lasting, Chip}
 use Rattle.rules.specs.Calls.{step, left_after}
 use Rattle.acts.specs.Acts.{after_steps, awaited, settled}
 

@@ -1,9 +1,9 @@
 -- A line longer than every record is none, and so are its first 137 bytes.
-use Rattle.std.proofs.Common.{◌≡◌, ℕ, ◌%◌, ◌<◌, ◌≤◌, Bool, false, cond, ◌&&◌, eqb, leb, List, [], ◌∷◌, ◌++◌, length, take, drop, Some, None, Option, sym, refl, ap, ◌∙◌, ⊎_elim, arith}
+use Rattle.std.proofs.Common.{◌≡◌, ℕ, ◌%◌, ◌<◌, ◌≤◌, Bool, false, cond, ◌&&◌, eqb, leb, List, [], ◌∷◌, ◌++◌, length, take, drop, Some, None, Option, sym, ap, ◌∙◌, ⊎_elim, arith}
 use Rattle.std.proofs.lemmas.List.{length-drop, length-take-le, take_all, take-append-le, length_push}
 use Rattle.std.proofs.lemmas.Bool.{and_left, and_right, ne_eqb, lt-leb, lt-ltb, le-ltb, cases_lt}
 use Rattle.tape.specs.Hex.{all_hex}
-use Rattle.tape.specs.Lines.{Request, step, power, is_mark, is_head, area_length, are_bytes, is_transaction, transaction_in, request_in}
+use Rattle.tape.specs.Lines.{step, power, is_mark, is_head, area_length, are_bytes, is_transaction, transaction_in, request_in}
 use Rattle.tape.specs.Views.{kept}
 
 none_of : {X : Type 0} (a b c : Bool) (x y z : Option X) → a ≡ false → b ≡ false → c ≡ false → cond a x (cond b y (cond c z None)) ≡ None

@@ -1,6 +1,6 @@
 -- The byte with which a job seals, bit by bit.
-use Rattle.std.proofs.Common.{◌≡◌, ℕ, ◌+◌, ◌*◌, ◌/◌, ◌%◌, ◌^◌, max, true, false, cond, not, ◌&&◌, eqb, sym, refl, ap, ◌∙◌, arith, eq-eqb, ne_eqb}
-use lib.Bits.{bit_and, bit_or, and_mask, or_step, or_zero_r}
+use Rattle.std.proofs.Common.{◌≡◌, ℕ, ◌+◌, ◌*◌, ◌/◌, ◌%◌, ◌^◌, max, true, false, cond, not, ◌&&◌, eqb, ap, ◌∙◌, arith, eq-eqb, ne_eqb}
+use lib.Bits.{bit_or, and_mask, or_step, or_zero_r}
 use Rattle.rules.specs.Registers.{bp, tb, srp0, srp1, power_lock}
 use Rattle.rules.specs.Seal.{covers, covers_part}
 use Rattle.seals.specs.SealedVisit.{seal_byte}

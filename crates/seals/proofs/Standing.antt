@@ -1,5 +1,5 @@
 -- A seal stands: over a run without a power cycle SR-1 is locked, so that the book finds the addresses sealed before each call.
-use Rattle.std.proofs.Common.{◌≡◌, ℕ, ◌<◌, Bool, true, ltb, sym, refl, ap, ◌∙◌}
+use Rattle.std.proofs.Common.{◌≡◌, ℕ, ◌<◌, true, ltb, sym, refl, ap, ◌∙◌}
 use Rattle.std.proofs.lemmas.Bool.{cond_both}
 use Rattle.arrays.specs.Store.{Store, Shape}
 use Rattle.frames.specs.declared.instruction.RowOperation.{RowOperation}
@@ -13,7 +13,7 @@ use Rattle.rules.specs.Chip.{Chip}
 use Rattle.rules.specs.Calls.{chip_after}
 use Rattle.rules.specs.Book.{Book, Ledger, Wait, no_wait, awaiting, Due, swap_of, erase_of, lock_of, noted_row, noted_by, noted_write, settled, ticked_by}
 use Rattle.rules.specs.Law.{Call, transaction, one_step, power_cycled, Moment, next, new, Run, rest, then, Throughout, Sealed, NoPowerCycle, page_at, Calibrated, SealedCalibration}
-use Rattle.seals.specs.SealedVisit.{seal_byte, sr1_written, sealing, seal_call, Stood, Stands, SealsStand}
+use Rattle.seals.specs.SealedVisit.{seal_byte, sr1_written, sealing, seal_call, SealsStand}
 use Rattle.seals.proofs.SealByte.{seal_locks, seal_covers}
 
 -- ---- the book keeps N

@@ -2,7 +2,7 @@ use Rattle.std.proofs.Common.{◌≡◌, ℕ, List, [], ◌∷◌, refl, ◌∙�
 use Rattle.rules.specs.Law.{Moment, Run, rest, then, next, new}
 use Rattle.play.specs.declared.call.Call.{Call}
 use Rattle.play.specs.declared.call.Call.TheVariants.{Transaction, Step, PowerCycle}
-use Rattle.play.specs.Played.{ruled, chip_after_call, chip_after_calls, played, Made}
+use Rattle.play.specs.Played.{ruled, chip_after_call, chip_after_calls, played}
 use Rattle.play.proofs.play.are_a_run.Goals as goal
 
 -- calls lengthen a run

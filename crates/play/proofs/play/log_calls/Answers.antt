@@ -1,4 +1,4 @@
-use Rattle.std.proofs.Common.{◌≡◌, [], ◌∷◌, ◌++◌, length, sym, ◌∙◌, rules}
+use Rattle.std.proofs.Common.{length, rules}
 use Rattle.std.proofs.lemmas.List.{at_drop_more, at_drop_all, take_more_set, append_assoc, append-nil, take_all}
 use Rattle.card.specs.View.{view}
 use Rattle.play.specs.Played.{chip_after_calls, answers_to, area_after_calls}
