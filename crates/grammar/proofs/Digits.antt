@@ -1,6 +1,6 @@
 -- Digits and bytes, there and back.
 use Rattle.std.proofs.Common.{◌≡◌, ℕ, zero, suc, ◌+◌, ◌*◌, ◌/◌, ◌%◌, ◌<◌, true, ◌&&◌, List, [], ◌∷◌, ◌++◌, map, length, get_or, sym, refl, ap, ◌∙◌, subst, arith}
-use Rattle.std.specs.List.{AllByRecursion as All, range_with_len}
+use Rattle.std.specs.List.{AllByRecursion, range_with_len}
 use Rattle.std.proofs.lemmas.Bool.{and_parts, and_from}
 use Rattle.std.proofs.lemmas.Bool.Decides.{nat_tests}
 use Rattle.tape.specs.Hex.{is_hex, all_hex, hex_value, hex_digit, hex_byte, hex_text, byte_at, bytes_in}
@@ -43,7 +43,7 @@ bytes_cons a b ds =
 
 -- ---- there and back
 
-pub bytes_of_text : (bs : List ℕ) → All (λ b. b < 256) bs → bytes_in (hex_text bs) ≡ bs
+pub bytes_of_text : (bs : List ℕ) → AllByRecursion (λ b. b < 256) bs → bytes_in (hex_text bs) ≡ bs
 bytes_of_text [] h = refl
 bytes_of_text (b ∷ bs) h =
     let high : hex_value (hex_digit (b / 16)) ≡ b / 16 = value_of_digit (b / 16) (omega arith) in
@@ -55,7 +55,7 @@ pub length_text : (bs : List ℕ) → length (hex_text bs) ≡ 2 * length bs
 length_text [] = refl
 length_text (b ∷ bs) = let e = length_text bs in omega arith
 
-pub text_is_hex : (bs : List ℕ) → All (λ b. b < 256) bs → all_hex (hex_text bs) ≡ true
+pub text_is_hex : (bs : List ℕ) → AllByRecursion (λ b. b < 256) bs → all_hex (hex_text bs) ≡ true
 text_is_hex [] h = refl
 text_is_hex (b ∷ bs) h =
     and_from _ _ (digit_is_hex (b / 16) (omega arith)) (and_from _ _ (digit_is_hex (b % 16) (omega arith)) (text_is_hex bs h.1))
@@ -80,10 +80,10 @@ text_of_bytes (a ∷ b ∷ ds) p e =
     ap hex_text (bytes_cons a b ds)
     ∙ (ap (λ l. l ++ hex_text (bytes_in ds)) (byte_text a b first.0 second.0) ∙ ap (λ l. a ∷ b ∷ l) (text_of_bytes ds second.1 even))
 
-pub bytes_fit : (ds : List ℕ) → All (λ b. b < 256) (bytes_in ds)
+pub bytes_fit : (ds : List ℕ) → AllByRecursion (λ b. b < 256) (bytes_in ds)
 bytes_fit [] = tt
 bytes_fit (d ∷ []) = tt
 bytes_fit (a ∷ b ∷ ds) =
     let high = value_small a in
     let low = value_small b in
-    subst (All (λ x. x < 256)) (sym (bytes_cons a b ds)) (omega arith, bytes_fit ds)
+    subst (AllByRecursion (λ x. x < 256)) (sym (bytes_cons a b ds)) (omega arith, bytes_fit ds)

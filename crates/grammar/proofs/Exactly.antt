@@ -1,6 +1,6 @@
 -- Exactly the lines that are written for sound requests are records.
 use Rattle.std.proofs.Common.{◌≡◌, ℕ, ◌+◌, ◌-◌, ◌*◌, ◌/◌, ◌%◌, ◌<◌, ◌≤◌, Bool, true, false, cond, ◌&&◌, eqb, leb, ◌⊎◌, List, [], ◌∷◌, length, Some, None, refl, ap, subst, inl, inr, ⊎_elim, arith}
-use Rattle.std.specs.List.{AllByRecursion as All}
+use Rattle.std.specs.List.{AllByRecursion}
 use Rattle.std.proofs.lemmas.Bool.{and_parts, and_from, and_right, le-leb, leb-true, eqb-true, eq-eqb, false≢true}
 use Rattle.std.proofs.lemmas.Bool.Decides.{nat_tests}
 use Rattle.std.proofs.lemmas.List.FromFn.{length-map-range_with_len}
@@ -28,7 +28,7 @@ low_written false = refl
 area_written : (n : ℕ) → 10 * ((48 + n / 10) - 48) + ((48 + n % 10) - 48) ≡ n
 area_written n = omega arith
 
-bytes_written : (sent : List ℕ) → length sent ≤ 64 → All (λ b. b < 256) sent → are_bytes (hex_text sent) ≡ true
+bytes_written : (sent : List ℕ) → length sent ≤ 64 → AllByRecursion (λ b. b < 256) sent → are_bytes (hex_text sent) ≡ true
 bytes_written sent h k =
     let long = length_text sent in
     let most : length (hex_text sent) ≤ 128 = omega arith in
@@ -39,7 +39,7 @@ head_written : (low : Bool) (n : ℕ) (sent : List ℕ) → n ≤ 64 → is_head
 head_written low n sent h =
     and_from (is_level (cond low 48 49)) _ (level_written low) (and_from (is_digit (48 + n / 10)) _ (digit_written (n / 10) (omega arith)) (and_from (is_digit (48 + n % 10)) _ (digit_written (n % 10) (omega arith)) refl))
 
-transaction_written : (low : Bool) (n : ℕ) (sent : List ℕ) → n ≤ 64 → length sent ≤ 64 → All (λ b. b < 256) sent → is_transaction (line_of (transaction low n sent)) ≡ true
+transaction_written : (low : Bool) (n : ℕ) (sent : List ℕ) → n ≤ 64 → length sent ≤ 64 → AllByRecursion (λ b. b < 256) sent → is_transaction (line_of (transaction low n sent)) ≡ true
 transaction_written low n sent h k all =
     let line = line_of (transaction low n sent) in
     let long : 8 ≤ length line = omega arith in

@@ -1,6 +1,6 @@
 -- How a record is written, and that exactly the lines so written are records.
 use Rattle.std.specs.Prelude.{◌≡◌, ℕ, ◌+◌, ◌/◌, ◌%◌, ◌<◌, ◌≤◌, cond, List, [], ◌∷◌, length, Some}
-use Rattle.std.specs.List.{AllByRecursion as All}
+use Rattle.std.specs.List.{AllByRecursion}
 use Rattle.tape.specs.Hex.{hex_text}
 use Rattle.tape.specs.Lines.{Request, transaction, step, power, request_in}
 
@@ -12,7 +12,7 @@ line_of power = 80 ∷ 87 ∷ []
 
 -- at most 64 bytes of area, and at most 64 bytes sent
 abbrev pub Sound : Request → Type 0
-Sound (transaction low n sent) = (n ≤ 64) × (length sent ≤ 64) × All (λ b. b < 256) sent
+Sound (transaction low n sent) = (n ≤ 64) × (length sent ≤ 64) × AllByRecursion (λ b. b < 256) sent
 Sound step = Unit {0}
 Sound power = Unit {0}
 

@@ -4,6 +4,6 @@
 #[cfg(test)]
 mod bench_card;
 #[cfg(test)]
-mod faults;
+mod fault_tests;
 #[cfg(test)]
 mod whole;
