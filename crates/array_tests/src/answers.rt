@@ -1,78 +1,72 @@
 // A table through absent, each of its causes, worn and done, on the smallest and the largest array and one between.
-use arrays::answer::Answer;
-use arrays::answer::Answer::{Absent, Done, Worn};
 use arrays::array::Array;
 use arrays::dump::Dump;
+use arrays::error::ArrayError;
 use arrays::memory::Memory;
 use std::alloc::Global;
 use std::process::Abort;
 use std::test::Fail;
 
+type Answer = Result<(), ArrayError>;
+
+const DONE: Answer = Ok(());
+
+const WORN: Answer = Err(ArrayError::Worn);
+
+const ABSENT: Answer = Err(ArrayError::Absent);
+
 // The life of each block, a block and page that are called with so many bytes, and what read, program and erase answer.
 #[derive(Clone, Copy)]
-struct Case(u32, usize, usize, usize, Answer, Answer, Answer);
+struct Case(u32, usize, usize, usize, [Answer; 3]);
 
 // Of 1 block of 1 page: each cause of absent alone, then beside life 0; erase asks neither page nor size.
 const SMALLEST: [Case; 9] = [
-    Case(1, 0, 0, 2_112, Done, Done, Done),
-    Case(0, 0, 0, 2_112, Done, Worn, Worn),
-    Case(1, 1, 0, 2_112, Absent, Absent, Absent),
-    Case(1, 0, 1, 2_112, Absent, Absent, Done),
-    Case(1, 0, 0, 2_111, Absent, Absent, Done),
-    Case(1, 0, 0, 2_113, Absent, Absent, Done),
-    Case(1, 0, 0, 0, Absent, Absent, Done),
-    Case(0, 0, 1, 2_112, Absent, Absent, Worn),
-    Case(0, 1, 0, 2_112, Absent, Absent, Absent),
+    Case(1, 0, 0, 2_112, [DONE, DONE, DONE]),
+    Case(0, 0, 0, 2_112, [DONE, WORN, WORN]),
+    Case(1, 1, 0, 2_112, [ABSENT, ABSENT, ABSENT]),
+    Case(1, 0, 1, 2_112, [ABSENT, ABSENT, DONE]),
+    Case(1, 0, 0, 2_111, [ABSENT, ABSENT, DONE]),
+    Case(1, 0, 0, 2_113, [ABSENT, ABSENT, DONE]),
+    Case(1, 0, 0, 0, [ABSENT, ABSENT, DONE]),
+    Case(0, 0, 1, 2_112, [ABSENT, ABSENT, WORN]),
+    Case(0, 1, 0, 2_112, [ABSENT, ABSENT, ABSENT]),
 ];
 
 // Of 4 blocks of 2 pages.
 const BETWEEN: [Case; 2] = [
-    Case(3, 3, 1, 2_112, Done, Done, Done),
-    Case(3, 4, 1, 2_112, Absent, Absent, Absent),
+    Case(3, 3, 1, 2_112, [DONE, DONE, DONE]),
+    Case(3, 4, 1, 2_112, [ABSENT, ABSENT, ABSENT]),
 ];
 
 // Of 1,024 blocks of 64 pages.
 const LARGEST: [Case; 3] = [
-    Case(4_294_967_295, 1_023, 63, 2_112, Done, Done, Done),
-    Case(1, 1_024, 0, 2_112, Absent, Absent, Absent),
-    Case(1, 0, 64, 2_112, Absent, Absent, Done),
+    Case(4_294_967_295, 1_023, 63, 2_112, [DONE, DONE, DONE]),
+    Case(1, 1_024, 0, 2_112, [ABSENT, ABSENT, ABSENT]),
+    Case(1, 0, 64, 2_112, [ABSENT, ABSENT, DONE]),
 ];
 
-// Whether read, program and erase answer these.
-fn answers<A: Array>(array: &mut A, case: Case, area: &mut [u8]) -> bool {
-    let Case(_, block, page, _, read, program, erase) = case;
-    let read = array.read(block, page, area) == read;
-    let program = array.program(block, page, area) == program;
-    read && program && array.erase(block) == erase
+// What read, program and erase answer.
+fn answers<A: Array>(array: &mut A, block: usize, page: usize, area: &mut [u8]) -> [Answer; 3] {
+    [
+        array.read(block, page, area),
+        array.program(block, page, area),
+        array.erase(block),
+    ]
 }
 
-// What a dump array answers to program or erase where a memory array answers this.
-fn of_dump(answer: Answer) -> Answer {
-    match answer {
-        Absent => Absent,
-        Worn => Worn,
-        Done => Worn,
-    }
-}
-
+// A dump array answers "worn" to program and erase where a memory array carries them out.
 fn try_case(bytes: &mut [u8], blocks: usize, pages: usize, case: Case, area: &mut [u8]) -> bool {
-    let Case(life, block, page, size, read, program, erase) = case;
+    let Case(life, block, page, _, [read, program, erase]) = case;
     let mut array = Memory::new(bytes, blocks, pages);
     array.renew(life);
     let memory = array.blocks() == blocks
         && array.pages() == pages
-        && answers(&mut array, case, area);
+        && answers(&mut array, block, page, area) == [read, program, erase];
     let mut array = Dump::new(bytes, blocks, pages);
-    let case = Case(
-        life,
-        block,
-        page,
-        size,
-        read,
-        of_dump(program),
-        of_dump(erase),
-    );
-    memory && array.blocks() == blocks && array.pages() == pages && answers(&mut array, case, area)
+    memory
+        && array.blocks() == blocks
+        && array.pages() == pages
+        && answers(&mut array, block, page, area) == [read, program.and(WORN), erase.and(WORN)]
 }
 
 fn try_all(

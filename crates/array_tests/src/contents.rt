@@ -1,10 +1,7 @@
 // What program and erase leave in the bytes of an array of 2 blocks of 2 pages: lives at 0, pages from byte 8 on.
-use arrays::answer::Answer;
-use arrays::array::Array;
+use arrays::array::{Array, PAGE};
 use arrays::memory::Memory;
 use std::test::Fail;
-
-const PAGE: usize = 2112;
 
 const LENGTH: usize = 8_456;
 
@@ -13,25 +10,17 @@ const LAST: usize = 6_344;
 
 #[test]
 fn bytes_after_program_and_erase(rt: HostRuntime) -> Result<(), Fail> {
-    let mut bytes = vec![in rt.alloc(); 0u8; LENGTH]?;
-    let mut new = vec![in rt.alloc(); 0xffu8; PAGE]?;
+    let mut bytes = [0u8; LENGTH];
+    let mut new = [0xffu8; PAGE];
     let mut array = Memory::new(&mut bytes, 2, 2);
     array.renew(258);
-    assert!(rt; new.len() == PAGE);
     new[5] = 0x0f;
-    assert!(rt; array.program(1, 1, &new) == Answer::Done);
+    assert!(rt; array.program(1, 1, &new).is_ok());
     new[5] = 0xf1;
-    assert!(rt; array.program(1, 1, &new) == Answer::Done);
-    assert!(rt; array.erase(0) == Answer::Done);
-    assert!(rt; bytes.len() == LENGTH);
-    assert!(rt;
-        bytes[0] == 0 && bytes[1] == 0 && bytes[2] == 1 && bytes[3] == 1,
-        "life 257 of block 0"
-    );
-    assert!(rt;
-        bytes[4] == 0 && bytes[5] == 0 && bytes[6] == 1 && bytes[7] == 2,
-        "life 258 of block 1"
-    );
+    assert!(rt; array.program(1, 1, &new).is_ok());
+    assert!(rt; array.erase(0).is_ok());
+    assert!(rt; bytes[0..4] == [0, 0, 1, 1], "life 257 of block 0");
+    assert!(rt; bytes[4..8] == [0, 0, 1, 2], "life 258 of block 1");
     assert!(rt; bytes[LAST + 5] == 0x01, "old AND new");
     assert!(rt;
         bytes[8] == 0xff

@@ -1,13 +1,11 @@
 // Sizes that do not fit make an empty array: N and P answer 0 and every call "absent".
-use arrays::answer::Answer;
-use arrays::array::Array;
+use arrays::array::{Array, PAGE};
 use arrays::dump::Dump;
+use arrays::error::ArrayError;
 use arrays::memory::Memory;
 use std::alloc::Global;
 use std::process::Abort;
 use std::test::Fail;
-
-const PAGE: usize = 2112;
 
 // N, P and a length; each of the first two rows of a kind would fit but for one number.
 const UNFIT: [(usize, usize, usize); 11] = [
@@ -26,9 +24,9 @@ const UNFIT: [(usize, usize, usize); 11] = [
 
 fn all_absent<A: Array>(array: &mut A, area: &mut [u8]) -> bool {
     let sizes = array.blocks() == 0 && array.pages() == 0;
-    let read = array.read(0, 0, area) == Answer::Absent;
-    let program = array.program(0, 0, area) == Answer::Absent;
-    let erase = array.erase(0) == Answer::Absent;
+    let read = array.read(0, 0, area) == Err(ArrayError::Absent);
+    let program = array.program(0, 0, area) == Err(ArrayError::Absent);
+    let erase = array.erase(0) == Err(ArrayError::Absent);
     sizes && read && program && erase
 }
 

@@ -1,21 +1,30 @@
 -- What the calls find in the bytes of an array of n blocks of p pages.
-use Rattle.std.proofs.Common.{◌≡◌, ℕ, ◌+◌, ◌<◌, ◌≤◌, Bool, true, false, cond, ◌&&◌, eqb, ltb, List, length, refl, ap, ◌∙◌, arith}
+use Rattle.std.proofs.Common.{◌≡◌, ℕ, ◌+◌, ◌-◌, ◌<◌, ◌≤◌, Bool, true, false, cond, ◌&&◌, eqb, ltb, List, length, refl, sym, ap, subst, ◌∙◌, arith}
 use Rattle.arrays.specs.declared.memory.Memory.{Memory}
 use Rattle.arrays.specs.declared.dump.Dump.{Dump}
 use Rattle.arrays.specs.Kinds.{in_memory, in_dump}
-use Rattle.std.proofs.lemmas.Bool.{cond-true, and_parts, and_from, eqb-true, ltb-true, lt-ltb}
-use Rattle.arrays.specs.Store.{Store, nothing, present}
+use Rattle.std.proofs.lemmas.Bool.{cond-true, cond-false, and_parts, and_from, eqb-true, ltb-true, lt-ltb, le-ltb}
+use Rattle.arrays.specs.Store.{Store, Shape, nothing, lifeless, present}
 use Rattle.arrays.specs.Layout.{part, number, at_page, at_life, fits, page_in, life_in, laid, memory_store, dump_store}
 use Rattle.arrays.proofs.Places.{Fit, fit, page_ends}
 
 -- N and P of a store that is empty unless something fits
-pub blocks_if : (t : Bool) (s : Store) → cond t s.blocks 0 ≡ (cond t s nothing).blocks
+blocks_if : (t : Bool) (s : Store) → cond t s.blocks 0 ≡ (cond t s nothing).blocks
 blocks_if true s = refl
 blocks_if false s = refl
 
-pub pages_if : (t : Bool) (s : Store) → cond t s.pages 0 ≡ (cond t s nothing).pages
+pages_if : (t : Bool) (s : Store) → cond t s.pages 0 ≡ (cond t s nothing).pages
 pages_if true s = refl
 pages_if false s = refl
+
+-- without lives it is empty as well, or has none
+lifeless_if : (t : Bool) (s : Store) → cond t (lifeless s) nothing ≡ lifeless (cond t s nothing)
+lifeless_if true s = refl
+lifeless_if false s = refl
+
+no_life_if : (t : Bool) (s : Store) (b : ℕ) → (s.blocks ≤ b → s.life b ≡ 0) → (cond t s nothing).blocks ≤ b → (cond t s nothing).life b ≡ 0
+no_life_if true s b h l = h l
+no_life_if false s b h l = refl
 
 -- it has a block only where all fits
 fits_if : (t : Bool) (s : Store) (b : ℕ) → b < (cond t s nothing).blocks → t ≡ true
@@ -76,13 +85,52 @@ module _ (m : Memory) where
       → Page m.layout.blocks m.layout.pages m.bytes.now (in_memory m) (life_in m.layout.blocks m.bytes.now) b q size
   memory_page = page_of m.layout.blocks m.layout.pages m.bytes.now (in_memory m) (life_in m.layout.blocks m.bytes.now) memory_block
 
-  -- the life that the bytes hold
-  pub memory_life : (b : ℕ) → b < (in_memory m).blocks → (in_memory m).life b ≡ number (part 4 (at_life b) m.bytes.now)
-  memory_life b h =
+  -- the place of a life, and the life that the bytes hold there
+  pub life_sized : (b : ℕ) → b < (in_memory m).blocks → (m.layout.blocks ≤ 1024) × (b < m.layout.blocks)
+  life_sized b h = let on = memory_block b h in (on.sized.n_most, on.inside)
+
+  pub life_inside : (b end : ℕ) → b < (in_memory m).blocks → end ≡ at_life b + 4 → end ≤ length m.bytes.now
+  life_inside b end h e = let on = memory_block b h in omega (arith, on.sized.long, on.inside)
+
+  pub memory_life : (b start end : ℕ) → b < (in_memory m).blocks → start ≡ at_life b → end ≡ at_life b + 4
+      → number (part (end - start) start m.bytes.now) ≡ (in_memory m).life b
+  memory_life b start end h s e =
       let on = memory_block b h in
-      ap (λ (v : Store). v.life b) on.is ∙ cond-true (ltb b m.layout.blocks) _ _ (lt-ltb b m.layout.blocks on.inside)
+      let four : end - start ≡ 4 = omega arith in
+      (λ i. number (part (four i) (s i) m.bytes.now))
+      ∙ sym (ap (λ (v : Store). v.life b) on.is ∙ cond-true (ltb b m.layout.blocks) _ _ (lt-ltb b m.layout.blocks on.inside))
+
+  -- the same bytes as a dump array
+  pub dump_of : dump_store m.layout.blocks m.layout.pages m.bytes.now ≡ lifeless (in_memory m)
+  unfolding memory_store dump_store
+  dump_of = lifeless_if (fits m.layout.blocks m.layout.pages (length m.bytes.now))
+      (whole m.layout.blocks m.layout.pages m.bytes.now (life_in m.layout.blocks m.bytes.now))
+
+  -- what a dump array's shape says of it, and no life where there is no block
+  pub memory_shape : (d : Dump) → in_dump d ≡ lifeless (in_memory m) → Shape (in_dump d) → Shape (in_memory m)
+  unfolding memory_store
+  memory_shape d e known =
+      let shape = subst Shape e known in
+      record {
+        sizes = shape.sizes;
+        long = shape.long;
+        small = shape.small;
+        no_page = shape.no_page;
+        no_life = λ b h. no_life_if (fits m.layout.blocks m.layout.pages (length m.bytes.now))
+            (whole m.layout.blocks m.layout.pages m.bytes.now (life_in m.layout.blocks m.bytes.now)) b
+            (λ l. cond-false (ltb b m.layout.blocks) _ _ (le-ltb b m.layout.blocks l)) h;
+      }
 
 module _ (d : Dump) where
+  -- N and P
+  pub dump_blocks : cond (fits d.layout.blocks d.layout.pages (length d.bytes.now)) d.layout.blocks 0 ≡ (in_dump d).blocks
+  unfolding dump_store
+  dump_blocks = blocks_if (fits d.layout.blocks d.layout.pages (length d.bytes.now)) (whole d.layout.blocks d.layout.pages d.bytes.now (λ _. 0))
+
+  pub dump_pages : cond (fits d.layout.blocks d.layout.pages (length d.bytes.now)) d.layout.pages 0 ≡ (in_dump d).pages
+  unfolding dump_store
+  dump_pages = pages_if (fits d.layout.blocks d.layout.pages (length d.bytes.now)) (whole d.layout.blocks d.layout.pages d.bytes.now (λ _. 0))
+
   pub dump_page : (b q size : ℕ) → present (in_dump d) b q size ≡ true
       → Page d.layout.blocks d.layout.pages d.bytes.now (in_dump d) (λ _. 0) b q size
   unfolding dump_store

@@ -5,3 +5,4 @@ pub mod Powers
 pub mod Shapes
 pub mod Found
 pub mod Written
+pub mod Calls

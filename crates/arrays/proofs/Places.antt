@@ -1,9 +1,9 @@
 -- Where the pages lie: each within the bytes, and no two at one place.
-use Rattle.std.proofs.Common.{◌≡◌, ℕ, ◌+◌, ◌*◌, ◌/◌, ◌%◌, ◌<◌, ◌≤◌, true, ◌&&◌, eqb, leb, sym, ap, ◌∙◌, mul_comm, add-mul, arith}
+use Rattle.std.proofs.Common.{◌≡◌, ℕ, ◌+◌, ◌*◌, ◌/◌, ◌%◌, ◌<◌, ◌≤◌, true, sym, ap, ◌∙◌, mul_comm, add-mul, arith}
 use lib.Count.{ones}
 use Rattle.std.proofs.lemmas.Nat.{mul-add-lt, div-mul-add, mod-mul-add, mul-le}
-use Rattle.std.proofs.lemmas.Bool.{and_parts, leb-true, eqb-true}
-use Rattle.arrays.specs.Layout.{fits, power_to, at_page, at_block}
+use Rattle.std.proofs.lemmas.Bool.Decides.{nat_tests}
+use Rattle.arrays.specs.Layout.{fits, at_page, at_block}
 
 -- the place of page r of block c among the pages
 pub place_below : (n p c r : ℕ) → c < n → r < p → c * p + r < n * p
@@ -33,18 +33,14 @@ pub record Fit (n p len : ℕ) : Type 0 where
 
 pub fit : (n p len : ℕ) → fits n p len ≡ true → Fit n p len
 fit n p len e =
-    let s = and_parts (power_to 1024 n) (power_to 64 p && eqb len (4 * n + 2112 * (n * p))) e in
-    let t = and_parts (eqb (ones n) 1) (leb n 1024) s.0 in
-    let u = and_parts (power_to 64 p) (eqb len (4 * n + 2112 * (n * p))) s.1 in
-    let v = and_parts (eqb (ones p) 1) (leb p 64) u.0 in
-    let n_most = leb-true n 1024 t.1 in
-    let p_most = leb-true p 64 v.1 in
-    let long = eqb-true len (4 * n + 2112 * (n * p)) u.1 in
+    let n_most : n ≤ 1024 = grind (arith, nat_tests) in
+    let p_most : p ≤ 64 = grind (arith, nat_tests) in
+    let long : len ≡ 4 * n + 2112 * (n * p) = grind (arith, nat_tests) in
     record {
       n_most = n_most;
       p_most = p_most;
-      n_power = eqb-true (ones n) 1 t.0;
-      p_power = eqb-true (ones p) 1 v.0;
+      n_power = grind (arith, nat_tests);
+      p_power = grind (arith, nat_tests);
       long = long;
       most = omega (arith, mul-le n p 1024 64 n_most p_most);
     }

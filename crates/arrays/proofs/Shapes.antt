@@ -2,9 +2,10 @@
 use Rattle.std.proofs.Common.{◌≡◌, ℕ, ◌+◌, ◌^◌, ◌<◌, ◌≤◌, true, ◌&&◌, ltb, List, [], length, get_or, drop, refl, ap, ◌∙◌, inl, inr, ⊎_elim, arith, length-take}
 use lib.Count.{ones}
 use Rattle.std.proofs.lemmas.List.{get_or-take, get_or-drop, get_or_past}
-use Rattle.std.proofs.lemmas.Bool.{cases_lt, cond-true, cond-false, cond_both, and_from, and_left, and_right, lt-ltb, le-ltb}
+use Rattle.std.proofs.lemmas.Bool.{cases_lt, cond-true, cond_both, and_from, lt-ltb}
+use Rattle.std.proofs.lemmas.Bool.Decides.{nat_tests}
 use Rattle.arrays.specs.Store.{Shape, Power, nothing}
-use Rattle.arrays.specs.Layout.{part, at_page, fits, page_in, life_in, laid, memory_store, dump_store}
+use Rattle.arrays.specs.Layout.{part, at_page, fits, page_in, laid, dump_store}
 use Rattle.arrays.proofs.Pieces.{length_part}
 use Rattle.arrays.proofs.Places.{fit, page_ends}
 use Rattle.arrays.proofs.Powers.{one_bit}
@@ -40,15 +41,9 @@ module _ (n p : ℕ) (xs : List ℕ) (small : (j : ℕ) → get_or xs j 0 < 256)
                 ∙ length_part 2112 (at_page n p b q) xs (page_ends n p b q (length xs) h k f.long);
             small = λ b q k. cond_both (ltb b n && ltb q p) (part 2112 (at_page n p b q) xs) [] (λ l. get_or l k 0 < 256)
                 (λ _. small_part 2112 (at_page n p b q) xs small k) (λ _. omega arith);
-            no_page = λ b q. ⊎_elim
-                (λ l. cond-false (ltb b n && ltb q p) _ _ (and_left (ltb b n) (ltb q p) (le-ltb b n l)))
-                (λ l. cond-false (ltb b n && ltb q p) _ _ (and_right (ltb b n) (ltb q p) (le-ltb q p l)));
+            no_page = λ b q h. grind (arith, nat_tests);
             no_life = none;
           }
-
-  pub memory_shape : Shape (memory_store n p xs)
-  unfolding memory_store
-  memory_shape = shape_laid (life_in n xs) (λ b h. cond-false (ltb b n) _ _ (le-ltb b n h))
 
   pub dump_shape : Shape (dump_store n p xs)
   unfolding dump_store

@@ -1,21 +1,19 @@
 -- What a write to the bytes of a memory array makes of its store: an AND over a page, FFh over a block, a life.
-use Rattle.std.proofs.Common.{◌≡◌, ℕ, ◌+◌, ◌*◌, ◌/◌, ◌%◌, ◌<◌, ◌≤◌, Bool, true, false, cond, ◌&&◌, eqb, ltb, List, [], ◌∷◌, length, replicate, sym, refl, ap, ◌∙◌, ⊎_elim, arith}
+use Rattle.std.proofs.Common.{◌≡◌, ℕ, ◌+◌, ◌*◌, ◌<◌, ◌≤◌, true, cond, ◌&&◌, eqb, ltb, List, [], length, replicate, sym, ap, ◌∙◌, ⊎_elim, arith}
 use lib.Bits.{bit_and}
 use lib.ListN.{length-replicate}
 use lib.Lanes.{zip2}
 use borrow.Rule.Slice.PartMut.{put_mid}
 use Rattle.std.proofs.lemmas.Simd.{length-zip2}
-use Rattle.std.proofs.lemmas.Nat.{shr-shr, div-add-mod'}
-use Rattle.std.proofs.lemmas.Bool.{cases_Bool, cases_order, cond-true, cond-false, and_parts, and_from, eqb-true, eq-eqb, ne_eqb, ltb-true, lt-ltb, both_ways}
+use Rattle.std.proofs.lemmas.Nat.{from_be_bytes-to_be_bytes_4}
+use Rattle.std.specs.Int.{to_be_bytes, w32}
+use Rattle.std.proofs.lemmas.Bool.{cases_order, cond-true, cond-false, eq-eqb, ne_eqb}
+use Rattle.std.proofs.lemmas.Bool.Decides.{nat_tests}
 use Rattle.arrays.specs.Store.{programmed, blanked, with_life}
 use Rattle.arrays.specs.Layout.{part, number, at_page, at_block, at_life, fits, page_in, life_in, memory_store}
 use Rattle.arrays.proofs.Pieces.{length_part, part_below, part_above, part_same, part_inside, part_replicate, length_put}
 use Rattle.arrays.proofs.Places.{same_block, same_page, place_below, block_above, Fit, fit, page_ends, block_ends}
 use Rattle.arrays.proofs.Found.{whole}
-
-cond_same : {A : Type 0} (t : Bool) (x : A) → cond t x x ≡ x
-cond_same true x = refl
-cond_same false x = refl
 
 -- where all fits, the store is the one that the bytes hold
 is_whole : (n p : ℕ) (xs : List ℕ) → fits n p (length xs) ≡ true → memory_store n p xs ≡ whole n p xs (life_in n xs)
@@ -43,21 +41,11 @@ module _ (n p : ℕ) (xs ys : List ℕ) (a m : ℕ) (fitting : fits n p (length 
 
   -- a write behind the lives alters none
   pub lives_stay : 4 * n ≤ a → (c : ℕ) → life_in n xs' c ≡ life_in n xs c
-  lives_stay h c = ⊎_elim
-      (λ t. let l = ltb-true c n t in ap (λ z. cond (ltb c n) (number z) 0) (part_below a m xs ys within 4 (at_life c) (omega arith)))
-      (λ t. cond-false (ltb c n) _ _ t ∙ sym (cond-false (ltb c n) _ _ t))
-      (cases_Bool (ltb c n))
+  lives_stay h c = grind (arith, nat_tests, part_below a m xs ys within 4 (at_life c))
 
   -- a write among the lives alters no page
   pub pages_stay : a + m ≤ 4 * n → (c r : ℕ) → page_in n p xs' c r ≡ page_in n p xs c r
   pages_stay h c r = ap (λ z. cond (ltb c n && ltb r p) z []) (part_above a m xs ys within long 2112 (at_page n p c r) (omega arith))
-
--- two pages at different places differ in block or page
-apart : (p b q c r : ℕ) → (c * p + r ≡ b * p + q → ⊥) → (eqb c b && eqb r q) ≡ false
-apart p b q c r h = ⊎_elim
-    (λ e. let s = and_parts (eqb c b) (eqb r q) e in absurd (h (λ i. eqb-true c b s.0 i * p + eqb-true r q s.1 i)))
-    (λ e. e)
-    (cases_Bool (eqb c b && eqb r q))
 
 module _ (n p : ℕ) (xs new : List ℕ) (b q : ℕ) (fitting : fits n p (length xs) ≡ true) (b_in : b < n) (q_in : q < p) (whole_page : length new ≡ 2112) where
   abbrev at : ℕ
@@ -79,29 +67,19 @@ module _ (n p : ℕ) (xs new : List ℕ) (b q : ℕ) (fitting : fits n p (length
   after = put_mid at 2112 xs anded
 
   page_at : (c r : ℕ) → c < n → r < p → part 2112 (at_page n p c r) after ≡ cond (eqb c b && eqb r q) (zip2 bit_and (part 2112 (at_page n p c r) xs) new) (part 2112 (at_page n p c r) xs)
-  page_at c r c_in r_in = ⊎_elim
-      (λ e. let cb = same_block p b q c r q_in r_in e in let rq = same_page p b q c r q_in r_in e in
-      (λ i. part 2112 (at_page n p (cb i) (rq i)) after)
-      ∙ part_same at 2112 xs anded within_page long_anded
-      ∙ (λ i. zip2 bit_and (part 2112 (at_page n p (sym cb i) (sym rq i)) xs) new)
-      ∙ sym (cond-true (eqb c b && eqb r q) _ _ (and_from (eqb c b) (eqb r q) (eq-eqb c b cb) (eq-eqb r q rq))))
-      (⊎_elim
-      (λ l. part_below at 2112 xs anded within_page 2112 (at_page n p c r) (omega arith)
-      ∙ sym (cond-false (eqb c b && eqb r q) _ _ (apart p b q c r (λ e. omega arith))))
-      (λ l. part_above at 2112 xs anded within_page long_anded 2112 (at_page n p c r) (omega arith)
-      ∙ sym (cond-false (eqb c b && eqb r q) _ _ (apart p b q c r (λ e. omega arith)))))
-      (cases_order (c * p + r) (b * p + q))
+  page_at c r c_in r_in = grind (
+    arith,
+    nat_tests,
+    same_block p b q c r q_in r_in,
+    same_page p b q c r q_in r_in,
+    part_same at 2112 xs anded within_page long_anded,
+    part_below at 2112 xs anded within_page 2112 (at_page n p c r),
+    part_above at 2112 xs anded within_page long_anded 2112 (at_page n p c r),
+    cases_order (c * p + r) (b * p + q),
+  )
 
   page_all : (c r : ℕ) → page_in n p after c r ≡ cond (eqb c b && eqb r q) (zip2 bit_and (page_in n p xs c r) new) (page_in n p xs c r)
-  page_all c r = ⊎_elim
-      (λ t. let s = and_parts (ltb c n) (ltb r p) t in
-      let to : page_in n p xs c r ≡ part 2112 (at_page n p c r) xs = cond-true (ltb c n && ltb r p) _ _ t in
-      cond-true (ltb c n && ltb r p) _ _ t ∙ page_at c r (ltb-true c n s.0) (ltb-true r p s.1)
-      ∙ (λ i. cond (eqb c b && eqb r q) (zip2 bit_and (sym to i) new) (sym to i)))
-      (λ t. let to : page_in n p xs c r ≡ [] = cond-false (ltb c n && ltb r p) _ _ t in
-      cond-false (ltb c n && ltb r p) _ _ t ∙ sym (cond_same (eqb c b && eqb r q) [])
-      ∙ (λ i. cond (eqb c b && eqb r q) (zip2 bit_and (sym to i) new) (sym to i)))
-      (cases_Bool (ltb c n && ltb r p))
+  page_all c r = grind (arith, nat_tests, page_at c r)
 
   pub and_page : memory_store n p after ≡ programmed (memory_store n p xs) b q new
   and_page =
@@ -138,29 +116,8 @@ module _ (n p : ℕ) (xs : List ℕ) (b : ℕ) (fitting : fits n p (length xs) �
       ∙ sym (cond-false (eqb c b) _ _ (ne_eqb c b (λ e. omega arith)))))
       (cases_order c b)
 
-  -- outside the array no page is one of block b
-  outside : (c r : ℕ) → (ltb c n && ltb r p) ≡ false → (eqb c b && ltb r p) ≡ false
-  outside c r t = ⊎_elim
-      (λ e. let s = and_parts (eqb c b) (ltb r p) e in
-      let cb = eqb-true c b s.0 in
-      absurd (both_ways (ltb c n && ltb r p) t (and_from (ltb c n) (ltb r p) (lt-ltb c n (omega arith)) s.1)))
-      (λ e. e)
-      (cases_Bool (eqb c b && ltb r p))
-
-  and_true : (x y : Bool) → y ≡ true → x ≡ (x && y)
-  and_true true y e = sym e
-  and_true false y e = refl
-
   blank_all : (c r : ℕ) → page_in n p mid c r ≡ cond (eqb c b && ltb r p) (replicate 2112 255) (page_in n p xs c r)
-  blank_all c r = ⊎_elim
-      (λ t. let s = and_parts (ltb c n) (ltb r p) t in
-      cond-true (ltb c n && ltb r p) _ _ t
-      ∙ block_at c r (ltb-true c n s.0) (ltb-true r p s.1)
-      ∙ (λ i. cond (and_true (eqb c b) (ltb r p) s.1 i) (replicate 2112 255) (sym (cond-true (ltb c n && ltb r p) (part 2112 (at_page n p c r) xs) [] t) i)))
-      (λ t. cond-false (ltb c n && ltb r p) _ _ t
-      ∙ sym (cond-false (ltb c n && ltb r p) (part 2112 (at_page n p c r) xs) [] t)
-      ∙ sym (cond-false (eqb c b && ltb r p) _ _ (outside c r t)))
-      (cases_Bool (ltb c n && ltb r p))
+  blank_all c r = grind (arith, nat_tests, block_at c r)
 
   pub blank_block : memory_store n p mid ≡ blanked (memory_store n p xs) b
   blank_block =
@@ -178,23 +135,16 @@ module _ (n p : ℕ) (xs four : List ℕ) (b : ℕ) (fitting : fits n p (length 
   end = put_mid (at_life b) 4 xs four
 
   life_at : (c : ℕ) → c < n → number (part 4 (at_life c) end) ≡ cond (eqb c b) (number four) (number (part 4 (at_life c) xs))
-  life_at c c_in = ⊎_elim
-      (λ e. (λ i. number (part 4 (at_life (e i)) end))
-      ∙ ap number (part_same (at_life b) 4 xs four within_life long_four)
-      ∙ sym (cond-true (eqb c b) _ _ (eq-eqb c b e)))
-      (⊎_elim
-      (λ l. ap number (part_below (at_life b) 4 xs four within_life 4 (at_life c) (omega arith))
-      ∙ sym (cond-false (eqb c b) _ _ (ne_eqb c b (λ e. omega arith))))
-      (λ l. ap number (part_above (at_life b) 4 xs four within_life long_four 4 (at_life c) (omega arith))
-      ∙ sym (cond-false (eqb c b) _ _ (ne_eqb c b (λ e. omega arith)))))
-      (cases_order c b)
+  life_at c c_in = grind (
+    arith,
+    nat_tests,
+    part_same (at_life b) 4 xs four within_life long_four,
+    part_below (at_life b) 4 xs four within_life 4 (at_life c),
+    part_above (at_life b) 4 xs four within_life long_four 4 (at_life c),
+  )
 
   life_all : (c : ℕ) → life_in n end c ≡ cond (eqb c b) (number four) (life_in n xs c)
-  life_all c = ⊎_elim
-      (λ t. cond-true (ltb c n) _ _ t ∙ life_at c (ltb-true c n t) ∙ ap (cond (eqb c b) (number four)) (sym (cond-true (ltb c n) _ _ t)))
-      (λ t. cond-false (ltb c n) _ _ t ∙ sym (cond-false (ltb c n) _ _ t)
-      ∙ sym (cond-false (eqb c b) _ _ (ne_eqb c b (λ e. both_ways (ltb c n) t (lt-ltb c n (omega arith))))))
-      (cases_Bool (ltb c n))
+  life_all c = grind (arith, nat_tests, life_at c)
 
   pub write_life : memory_store n p end ≡ with_life (memory_store n p xs) b (number four)
   write_life =
@@ -202,14 +152,5 @@ module _ (n p : ℕ) (xs four : List ℕ) (b : ℕ) (fitting : fits n p (length 
       ∙ ap (λ s. with_life s b (number four)) (sym (is_whole n p xs fitting))
 
 -- a life that is written is the life that is read
-digits : (v a b d r s t : ℕ) → a * 256 + r ≡ v → b * 256 + s ≡ a → d * 256 + t ≡ b → d * 16777216 + t * 65536 + s * 256 + r ≡ v
-digits v a b d r s t e f g = omega arith
-
-pub number_digits : (v : ℕ) → v < 4294967296 → number ((v / 16777216 % 256) ∷ (v / 65536 % 256) ∷ (v / 256 % 256) ∷ (v % 256) ∷ []) ≡ v
-number_digits v h =
-    let top : v / 16777216 % 256 ≡ v / 16777216 = omega arith in
-    ap (λ d. d * 16777216 + v / 65536 % 256 * 65536 + v / 256 % 256 * 256 + v % 256) top
-    ∙ digits v (v / 256) (v / 65536) (v / 16777216) (v % 256) (v / 256 % 256) (v / 65536 % 256)
-    (div-add-mod' v 256)
-    (ap (λ q. q * 256 + v / 256 % 256) (sym (shr-shr v 8 8)) ∙ div-add-mod' (v / 256) 256)
-    (ap (λ q. q * 256 + v / 65536 % 256) (sym (shr-shr v 16 8)) ∙ div-add-mod' (v / 65536) 256)
+pub number_digits : (v : ℕ) → v < 4294967296 → number (to_be_bytes w32 v) ≡ v
+number_digits v h = omega (arith, from_be_bytes-to_be_bytes_4 v h)

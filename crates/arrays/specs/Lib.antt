@@ -1,3 +1,4 @@
+pub mod Words
 pub mod Store
 pub mod Layout
 pub mod Kinds

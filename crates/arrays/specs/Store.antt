@@ -1,8 +1,8 @@
 -- What an array means, and what its calls answer and leave.
-use Rattle.std.specs.Prelude.{◌≡◌, ℕ, ◌-◌, ◌^◌, ◌<◌, ◌≤◌, Bool, cond, ◌&&◌, ◌⊎◌, List, [], length, replicate, ◌==◌, bit_and, nat_lt, slice_index}
+use Rattle.std.specs.Prelude.{◌≡◌, ℕ, ◌-◌, ◌^◌, ◌<◌, ◌≤◌, Bool, cond, ◌&&◌, ◌⊎◌, List, [], length, replicate, ◌==◌, bit_and, nat_lt, slice_index, Result, Ok, Err}
 use Rattle.std.specs.Simd.Lanes.{zip2}
-use Rattle.arrays.specs.declared.answer.Answer.{Answer}
-use Rattle.arrays.specs.declared.answer.Answer.TheVariants.{Done, Worn, Absent}
+use Rattle.arrays.specs.declared.error.ArrayError.{ArrayError}
+use Rattle.arrays.specs.declared.error.ArrayError.TheVariants.{Worn, Absent}
 
 -- bytes of a page; the largest N and P
 abbrev pub page_size : ℕ
@@ -24,6 +24,10 @@ pub record Store : Type 0 where
 -- the empty array
 abbrev pub nothing : Store
 nothing = record { blocks = 0; pages = 0; page = λ _ _. []; life = λ _. 0 }
+
+-- the same array with each life 0
+abbrev pub lifeless : Store → Store
+lifeless s = record { blocks = s.blocks; pages = s.pages; page = s.page; life = λ _. 0 }
 
 -- n is a power of two from 1 to `most`
 abbrev pub Power : ℕ → ℕ → Type 0
@@ -48,11 +52,11 @@ abbrev pub lives : Store → ℕ → Bool
 lives s b = nat_lt 0 (s.life b)
 
 -- read answers by what exists, program and erase by life too; "absent" is tried first
-abbrev pub read_answer : Bool → Answer
-read_answer exists = cond exists Done Absent
+abbrev pub read_answer : Bool → Result (Unit {0}) ArrayError
+read_answer exists = cond exists (Ok tt) (Err Absent)
 
-abbrev pub write_answer : Bool → Bool → Answer
-write_answer exists alive = cond exists (cond alive Done Worn) Absent
+abbrev pub write_answer : Bool → Bool → Result (Unit {0}) ArrayError
+write_answer exists alive = cond exists (cond alive (Ok tt) (Err Worn)) (Err Absent)
 
 -- the area after read: the page, or what it held
 abbrev pub area_after : Store → ℕ → ℕ → List ℕ → List ℕ
@@ -97,7 +101,7 @@ renewed s end life = record {
   life = λ c. cond (nat_lt c end) life (s.life c);
 }
 
--- the array after program and after erase: nothing changes unless the answer is "done"
+-- the array after program and after erase: nothing changes unless the call was carried out
 abbrev pub after_program : Store → ℕ → ℕ → List ℕ → Store
 after_program s b q new = cond (present s b q (length new) && lives s b) (programmed s b q new) s
 

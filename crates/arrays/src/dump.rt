@@ -1,17 +1,18 @@
-ghost use Rattle.std.specs.Prelude.{◌≡◌, true, false, length};
-ghost use Rattle.arrays.specs.Store.{Shape, present, lives, write_answer};
-ghost use Rattle.arrays.specs.Kinds.{in_dump};
+ghost use Rattle.std.specs.Prelude.{◌≡◌, MatchResult, true, false};
+ghost use Rattle.arrays.specs.declared.error.ArrayError.TheVariants.{Absent};
+ghost use Rattle.arrays.specs.Store.{Shape, has_block, present, read_answer};
+ghost use Rattle.arrays.specs.Kinds.{in_dump, PageIn};
 
-use crate::answer::Answer;
-use crate::array::Array;
-use crate::bytes::copy;
-use crate::layout::{Layout, PAGE, are_bytes};
+use crate::array::{Array, PAGE};
+use crate::error::ArrayError;
+use crate::layout::Layout;
+use std::ops::Range;
 
 // A dump array has the layout of a memory array, held for reading, and each of its lives counts as 0.
 #[derive(Drop)]
 pub struct Dump<'a> {
-    bytes: &'a [u8],
-    layout: Layout,
+    pub(crate) bytes: &'a [u8],
+    pub(crate) layout: Layout,
 }
 
 impl<'a> Dump<'a> {
@@ -27,38 +28,41 @@ impl<'a> Dump<'a> {
     }
 
     // N and P: 0 and 0 if they do not fit the bytes.
+    #[tactic(auto, using(crate::proofs::Found::dump_blocks, crate::proofs::Found::dump_pages, crate::proofs::Shapes::dump_shape))]
     fn sizes(&self) -> Layout
         ensures blocks { result.blocks ≡ (in_dump self.now).blocks }
         ensures pages { result.pages ≡ (in_dump self.now).pages }
         ensures shape { Shape (in_dump self.now) }
     {
-        are_bytes(self.bytes);
-        self.layout.fitted(self.bytes.len())
+        self.layout.fitted(self.bytes)
     }
 
-    // Does the page exist, and is `size` a page's?
-    fn has(&self, block: usize, page: usize, size: usize) -> bool
-        ensures { result ≡ present (in_dump self.now) block page size }
+    // Does the block exist?
+    pub(crate) fn find_block(&self, block: usize) -> Result<(), ArrayError>
+        ensures { result ≡ read_answer (has_block (in_dump self.now) block) }
+    {
+        if block < self.sizes().blocks {
+            Ok(())
+        } else {
+            Err(ArrayError::Absent)
+        }
+    }
+
+    // Where the page lies, if it exists and `size` is a page's.
+    pub(crate) fn find_page(
+        &self,
+        block: usize,
+        page: usize,
+        size: usize,
+    ) -> Result<Range<usize>, ArrayError>
+        ensures { MatchResult result (λ place. PageIn self.now block page size place) (λ error. (error ≡ Absent) × (present (in_dump self.now) block page size ≡ false)) }
     {
         let sizes = self.sizes();
-        block < sizes.blocks && page < sizes.pages && size == PAGE
-    }
-
-    // Copies the page into the area.
-    fn copy_page(&self, block: usize, page: usize, area: &mut [u8])
-        requires { present (in_dump self.now) block page (length area.old) ≡ true }
-        ensures { area.new ≡ (in_dump self.now).page block page }
-    {
-        let at = self.layout.page_start(block, page);
-        copy(area, &self.bytes[at..at + PAGE]);
-    }
-
-    // What program and erase answer, since each life counts as 0.
-    fn refuse(&self, block: usize, exists: bool) -> Answer
-        ensures answer { result ≡ write_answer exists (lives (in_dump self.now) block) }
-        ensures worn { lives (in_dump self.now) block ≡ false }
-    {
-        if exists { Answer::Worn } else { Answer::Absent }
+        if block < sizes.blocks && page < sizes.pages && size == PAGE {
+            Ok(self.layout.page_place(block, page))
+        } else {
+            Err(ArrayError::Absent)
+        }
     }
 }
 
@@ -75,19 +79,22 @@ impl Array for Dump<'_> {
         self.sizes().pages
     }
 
-    fn read(&self, block: usize, page: usize, area: &mut [u8]) -> Answer {
-        if !self.has(block, page, area.len()) {
-            return Answer::Absent;
-        }
-        self.copy_page(block, page, area);
-        Answer::Done
+    #[tactic(auto, using(crate::proofs::Calls::reads_page))]
+    fn read(&self, block: usize, page: usize, area: &mut [u8]) -> Result<(), ArrayError> {
+        let place = self.find_page(block, page, area.len())?;
+        area.copy_from_slice(&self.bytes[place]);
+        Ok(())
     }
 
-    fn program(&mut self, block: usize, page: usize, bytes: &[u8]) -> Answer {
-        self.refuse(block, self.has(block, page, bytes.len()))
+    #[tactic(auto, using(crate::proofs::Found::dump_dead))]
+    fn program(&mut self, block: usize, page: usize, bytes: &[u8]) -> Result<(), ArrayError> {
+        self.find_page(block, page, bytes.len())?;
+        Err(ArrayError::Worn)
     }
 
-    fn erase(&mut self, block: usize) -> Answer {
-        self.refuse(block, block < self.blocks())
+    #[tactic(auto, using(crate::proofs::Found::dump_dead))]
+    fn erase(&mut self, block: usize) -> Result<(), ArrayError> {
+        self.find_block(block)?;
+        Err(ArrayError::Worn)
     }
 }

@@ -1,16 +1,17 @@
 ghost use Rattle.std.specs.Prelude.{◌≡◌, ℕ, ◌+◌, ◌*◌, ◌<◌, ◌≤◌, length as count, if◌then◌else◌, slice_index};
-ghost use Rattle.arrays.specs.Layout.{fits as fitting, at_page, at_block, number};
+ghost use Rattle.arrays.specs.Layout.{fits as fitting, at_life, at_page, at_block, number};
 
-// The bytes of a page, and of a block's life.
-pub(crate) const PAGE: usize = 2112;
+use crate::array::PAGE;
+use std::ops::Range;
 
-pub(crate) const LIFE: usize = 4;
+// The bytes of a block's life.
+const LIFE: usize = 4;
 
 const MOST_BLOCKS: usize = 1024;
 
 const MOST_PAGES: usize = 64;
 
-// N blocks of P pages, whose lives and then pages lie in bytes.
+// N blocks of P pages, whose lives and then pages lie in bytes. Sizes that do not fit are a layout too, so each place asks for the bounds.
 #[derive(Clone, Copy)]
 pub(crate) struct Layout {
     pub(crate) blocks: usize,
@@ -29,12 +30,13 @@ impl Layout {
             && length == LIFE * self.blocks + PAGE * (self.blocks * self.pages)
     }
 
-    // N and P of an array on bytes of this length: 0 and 0 if they do not fit.
-    pub(crate) fn fitted(self, length: usize) -> Layout
-        ensures blocks { result.blocks ≡ (if fitting self.blocks self.pages length then self.blocks else 0) }
-        ensures pages { result.pages ≡ (if fitting self.blocks self.pages length then self.pages else 0) }
+    // N and P of an array on these bytes, each of which is below 256: 0 and 0 if they do not fit.
+    pub(crate) fn fitted(self, bytes: &[u8]) -> Layout
+        ensures blocks { result.blocks ≡ (if fitting self.blocks self.pages (count bytes.now) then self.blocks else 0) }
+        ensures pages { result.pages ≡ (if fitting self.blocks self.pages (count bytes.now) then self.pages else 0) }
+        ensures bytes { (k : ℕ) → slice_index bytes.now k < 256 }
     {
-        if self.fits(length) {
+        if self.fits(bytes.len()) {
             self
         } else {
             Layout {
@@ -44,28 +46,35 @@ impl Layout {
         }
     }
 
-    // Where the page begins.
-    pub(crate) fn page_start(self, block: usize, page: usize) -> usize
+    // Where the life of the block lies.
+    pub(crate) fn life_place(self, block: usize) -> Range<usize>
+        requires { (self.blocks ≤ 1024) × (block < self.blocks) }
+        ensures start { result.start ≡ at_life block }
+        ensures end { result.end ≡ at_life block + 4 }
+    {
+        let start = LIFE * block;
+        start..start + LIFE
+    }
+
+    // Where the page lies.
+    pub(crate) fn page_place(self, block: usize, page: usize) -> Range<usize>
         requires { (self.blocks ≤ 1024) × ((self.pages ≤ 64) × ((block < self.blocks) × (page < self.pages))) }
-        ensures { result ≡ at_page self.blocks self.pages block page }
+        ensures start { result.start ≡ at_page self.blocks self.pages block page }
+        ensures end { result.end ≡ at_page self.blocks self.pages block page + 2112 }
     {
-        LIFE * self.blocks + PAGE * (block * self.pages + page)
+        let start = LIFE * self.blocks + PAGE * (block * self.pages + page);
+        start..start + PAGE
     }
 
-    // Where the pages of the block begin.
-    pub(crate) fn block_start(self, block: usize) -> usize
+    // Where the pages of the block lie.
+    pub(crate) fn block_place(self, block: usize) -> Range<usize>
         requires { (self.blocks ≤ 1024) × ((self.pages ≤ 64) × (block < self.blocks)) }
-        ensures { result ≡ at_block self.blocks self.pages block }
+        ensures start { result.start ≡ at_block self.blocks self.pages block }
+        ensures end { result.end ≡ at_block self.blocks self.pages block + 2112 * self.pages }
     {
-        LIFE * self.blocks + PAGE * (block * self.pages)
+        let start = LIFE * self.blocks + PAGE * (block * self.pages);
+        start..start + PAGE * self.pages
     }
-}
-
-// Each byte is below 256: a proof knows it of a slice once the slice is passed to a call.
-pub(crate) fn are_bytes(bytes: &[u8])
-    ensures { (k : ℕ) → slice_index bytes.now k < 256 }
-{
-    let _empty = bytes.is_empty();
 }
 
 // Four bytes as a number, high byte first.
@@ -73,5 +82,5 @@ pub(crate) fn number_in(four: &[u8]) -> u32
     requires { count four.now ≡ 4 }
     ensures { result ≡ number four.now }
 {
-    u32::from_be_bytes([four[0], four[1], four[2], four[3]])
+    u32::from_be_bytes(*four.first_chunk().unwrap())
 }

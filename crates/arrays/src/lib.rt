@@ -1,8 +1,8 @@
 #![tactic(auto)]
 
-pub mod answer;
 pub mod array;
 mod bytes;
 pub mod dump;
+pub mod error;
 mod layout;
 pub mod memory;

@@ -1,13 +1,14 @@
-ghost use Rattle.std.specs.Prelude.{◌≡◌, ◌<◌, ◌≤◌, true, length};
-ghost use Rattle.arrays.specs.Store.{Shape, present, programmed, blanked, with_life, renewed};
-ghost use Rattle.arrays.specs.Kinds.{in_memory, SamePlace};
+ghost use Rattle.std.specs.Prelude.{◌≡◌, ◌<◌};
+ghost use Rattle.arrays.specs.Store.{lifeless, blanked, with_life, renewed};
+ghost use Rattle.arrays.specs.Kinds.{in_memory, in_dump, SamePlace, life_answer};
 
-use crate::answer::Answer;
 use crate::array::Array;
-use crate::bytes::{and_into, copy, fill};
-use crate::layout::{LIFE, Layout, PAGE, are_bytes, number_in};
+use crate::bytes::and_into;
+use crate::dump::Dump;
+use crate::error::ArrayError;
+use crate::layout::{Layout, number_in};
 
-// A memory array stands on writable bytes: N lives of four bytes each, high byte first, then the pages by block and page.
+// A memory array stands on writable bytes: N lives of four bytes each, high byte first, then the pages by block and page. No model: a `Store` holds functions.
 #[derive(Drop)]
 pub struct Memory<'a> {
     bytes: &'a mut [u8],
@@ -32,68 +33,36 @@ impl<'a> Memory<'a> {
         ensures after { in_memory self.new ≡ renewed (in_memory self.old) (in_memory self.old).blocks life }
         ensures place { SamePlace self.old self.new }
     {
-        let blocks = self.blocks();
-        self.renew_below(blocks, life);
-    }
-
-    // The same of the blocks below `end`.
-    fn renew_below(&mut self, end: usize, life: u32)
-        requires { end ≤ (in_memory self.old).blocks }
-        ensures after { in_memory self.new ≡ renewed (in_memory self.old) end life }
-        ensures place { SamePlace self.old self.new }
-    {
-        for block in 0..end {
+        for block in 0..self.blocks() {
             self.blank(block);
             self.set_life(block, life);
         }
     }
 
-    // N and P: 0 and 0 if they do not fit the bytes.
-    fn sizes(&self) -> Layout
-        ensures blocks { result.blocks ≡ (in_memory self.now).blocks }
-        ensures pages { result.pages ≡ (in_memory self.now).pages }
-        ensures shape { Shape (in_memory self.now) }
+    // The same bytes as a dump array, which reads as this does.
+    #[tactic(auto, using(crate::proofs::Found::dump_of))]
+    fn dump(&self) -> Dump<'_>
+        ensures meaning { in_dump result ≡ lifeless (in_memory self.now) }
+        ensures bytes { result.bytes.now ≡ self.now.bytes.now }
+        ensures layout { result.layout ≡ self.now.layout }
     {
-        are_bytes(&self.bytes[0..]);
-        self.layout.fitted(self.bytes.len())
-    }
-
-    // Does the page exist, and is `size` a page's?
-    fn has(&self, block: usize, page: usize, size: usize) -> bool
-        ensures { result ≡ present (in_memory self.now) block page size }
-    {
-        let sizes = self.sizes();
-        block < sizes.blocks && page < sizes.pages && size == PAGE
-    }
-
-    // The life of the block, or 0 if it does not exist.
-    fn life(&self, block: usize) -> u32
-        ensures { result ≡ (in_memory self.now).life block }
-    {
-        if block >= self.blocks() {
-            return 0;
+        Dump {
+            bytes: &self.bytes[..],
+            layout: self.layout,
         }
-        let at = LIFE * block;
-        number_in(&self.bytes[at..at + LIFE])
     }
 
-    // Copies the page into the area.
-    fn copy_page(&self, block: usize, page: usize, area: &mut [u8])
-        requires { present (in_memory self.now) block page (length area.old) ≡ true }
-        ensures { area.new ≡ (in_memory self.now).page block page }
+    // The life of a block that exists and is not worn.
+    #[tactic(auto, using(crate::proofs::Found::memory_life))]
+    fn life(&self, block: usize) -> Result<u32, ArrayError>
+        ensures { result ≡ life_answer (in_memory self.now) block }
     {
-        let at = self.layout.page_start(block, page);
-        copy(area, &self.bytes[at..at + PAGE]);
-    }
-
-    // Turns each byte of the page into itself AND the byte of `bytes` at its place.
-    fn and_page(&mut self, block: usize, page: usize, bytes: &[u8])
-        requires { present (in_memory self.old) block page (length bytes.now) ≡ true }
-        ensures after { in_memory self.new ≡ programmed (in_memory self.old) block page bytes.now }
-        ensures place { SamePlace self.old self.new }
-    {
-        let at = self.layout.page_start(block, page);
-        and_into(&mut self.bytes[at..at + PAGE], bytes);
+        self.dump().find_block(block)?;
+        let life = number_in(&self.bytes[self.layout.life_place(block)]);
+        if life == 0 {
+            return Err(ArrayError::Worn);
+        }
+        Ok(life)
     }
 
     // Sets every byte of the block to FFh.
@@ -102,9 +71,8 @@ impl<'a> Memory<'a> {
         ensures after { in_memory self.new ≡ blanked (in_memory self.old) block }
         ensures place { SamePlace self.old self.new }
     {
-        let at = self.layout.block_start(block);
-        let end = at + PAGE * self.layout.pages;
-        fill(&mut self.bytes[at..end], 0xff);
+        let place = self.layout.block_place(block);
+        self.bytes[place].fill(0xff);
     }
 
     // Writes the life of the block.
@@ -113,8 +81,8 @@ impl<'a> Memory<'a> {
         ensures after { in_memory self.new ≡ with_life (in_memory self.old) block life }
         ensures place { SamePlace self.old self.new }
     {
-        let at = LIFE * block;
-        copy(&mut self.bytes[at..at + LIFE], &life.to_be_bytes());
+        let place = self.layout.life_place(block);
+        self.bytes[place].copy_from_slice(&life.to_be_bytes());
     }
 }
 
@@ -123,43 +91,31 @@ impl Array for Memory<'_> {
 
     ghost kept = { SamePlace };
 
+    #[tactic(auto, using(crate::proofs::Found::memory_shape))]
     fn blocks(&self) -> usize {
-        self.sizes().blocks
+        self.dump().blocks()
     }
 
     fn pages(&self) -> usize {
-        self.sizes().pages
+        self.dump().pages()
     }
 
-    fn read(&self, block: usize, page: usize, area: &mut [u8]) -> Answer {
-        if !self.has(block, page, area.len()) {
-            return Answer::Absent;
-        }
-        self.copy_page(block, page, area);
-        Answer::Done
+    fn read(&self, block: usize, page: usize, area: &mut [u8]) -> Result<(), ArrayError> {
+        self.dump().read(block, page, area)
     }
 
-    fn program(&mut self, block: usize, page: usize, bytes: &[u8]) -> Answer {
-        if !self.has(block, page, bytes.len()) {
-            return Answer::Absent;
-        }
-        if self.life(block) == 0 {
-            return Answer::Worn;
-        }
-        self.and_page(block, page, bytes);
-        Answer::Done
+    #[tactic(auto, using(crate::proofs::Calls::programs_page))]
+    fn program(&mut self, block: usize, page: usize, bytes: &[u8]) -> Result<(), ArrayError> {
+        let place = self.dump().find_page(block, page, bytes.len())?;
+        self.life(block)?;
+        and_into(&mut self.bytes[place], bytes);
+        Ok(())
     }
 
-    fn erase(&mut self, block: usize) -> Answer {
-        if block >= self.blocks() {
-            return Answer::Absent;
-        }
-        let life = self.life(block);
-        if life == 0 {
-            return Answer::Worn;
-        }
+    fn erase(&mut self, block: usize) -> Result<(), ArrayError> {
+        let life = self.life(block)?;
         self.blank(block);
         self.set_life(block, life - 1);
-        Answer::Done
+        Ok(())
     }
 }

@@ -1,15 +1,14 @@
 -- How two pages are compared, place by place.
-use Rattle.std.specs.Prelude.{ℕ, ◌+◌, Bool, cond, not, List, [], ◌∷◌, ◌==◌, bit_and}
-use Rattle.bench.specs.declared.compare.Test.{Test}
-use Rattle.bench.specs.declared.compare.Test.TheVariants.{Equal, Risen}
+use Rattle.std.specs.Prelude.{ℕ, Bool, not, List, ◌==◌, bit_and, count_by, zip}
+
+-- both bytes are equal
+abbrev pub equal : ℕ → ℕ → Bool
+equal old new = old == new
 
 -- a bit rose where the new byte has a 1 that the old one has not
-abbrev pub holds : Test → ℕ → ℕ → Bool
-holds Equal old new = old == new
-holds Risen old new = not (bit_and old new == new)
+abbrev pub risen : ℕ → ℕ → Bool
+risen old new = not (bit_and old new == new)
 
 -- in how many places of both lists the test holds
 abbrev pub places_where : (ℕ → ℕ → Bool) → List ℕ → List ℕ → ℕ
-places_where test [] ys = 0
-places_where test (x ∷ xs) [] = 0
-places_where test (x ∷ xs) (y ∷ ys) = cond (test x y) 1 0 + places_where test xs ys
+places_where test old new = count_by (λ (place : ℕ × ℕ). test place.0 place.1) (zip old new)

@@ -1,5 +1,8 @@
-ghost use Rattle.std.specs.Prelude.{◌≡◌, leb, ◌++◌, length, drop, if◌then◌else◌, nat_le};
+ghost use Rattle.std.specs.Prelude.{◌≡◌, leb, ◌++◌, length, drop, if◌then◌else◌, nat_le, is_ok, Some, codes};
 ghost use Rattle.bench.specs.Calibrations.{record_of, found_in};
+
+use std::error::Error;
+use std::fmt;
 
 const RECORD: usize = 10;
 
@@ -9,6 +12,20 @@ pub struct Calibration {
     pub zero: u32,
     pub span: u32,
 }
+
+// The page has fewer than the ten bytes of a calibration.
+#[derive(Clone, Copy, PartialEq, Eq, Debug)]
+pub struct PageTooShort;
+
+impl fmt::Display for PageTooShort {
+    ghost output = { λ _. Some (codes "the page is too short for a calibration") };
+
+    fn fmt<W: fmt::Write>(&self, f: &mut fmt::Formatter<W>) -> fmt::Result {
+        write!(f, "the page is too short for a calibration")
+    }
+}
+
+impl Error for PageTooShort {}
 
 impl Calibration {
     // The ten bytes with which its page begins.
@@ -21,15 +38,13 @@ impl Calibration {
     }
 
     // Writes it over the start of a page, if that is long enough.
-    pub fn stamp(self, page: &mut [u8]) -> bool
-        ensures fits { result ≡ nat_le 10 (length page.old) }
+    pub fn stamp(self, page: &mut [u8]) -> Result<(), PageTooShort>
+        ensures fits { is_ok result ≡ nat_le 10 (length page.old) }
         ensures after { page.new ≡ (if leb 10 (length page.old) then record_of self ++ drop 10 page.old else page.old) }
     {
-        if page.len() < RECORD {
-            return false;
-        }
-        page[0..RECORD].copy_from_slice(&self.record());
-        true
+        let start = page.first_chunk_mut().ok_or(PageTooShort)?;
+        *start = self.record();
+        Ok(())
     }
 
     // The calibration with which a page begins, if it has the mark.

@@ -1,36 +1,43 @@
-ghost use Rattle.std.specs.Prelude.{◌≡◌, ◌≤◌, if◌then◌else◌};
-ghost use Rattle.bench.specs.Compared.{holds, places_where};
+ghost use Rattle.std.specs.Prelude.{◌≡◌, ℕ, Bool};
+ghost use Rattle.bench.specs.Compared.{equal, risen, places_where};
 
 // What is asked of the bytes at one place of two pages, an older and a newer one.
-#[derive(Clone, Copy)]
-pub enum Test {
-    // they are equal
-    Equal,
-    // a bit that was 0 is 1
-    Risen,
+pub trait Test {
+    // The test, as a function of both bytes.
+    ghost test: { ℕ → ℕ → Bool };
+
+    fn holds(old: u8, new: u8) -> bool
+        ensures { result ≡ test old new };
+
+    // In how many places of both pages it holds.
+    final fn count(old: &[u8], new: &[u8]) -> usize
+        ensures { result ≡ places_where test old.now new.now }
+    {
+        old.iter()
+            .zip(new)
+            .filter(|(old, new)| Self::holds(**old, **new))
+            .count()
+    }
 }
 
-impl Test {
-    // In how many places of both pages it holds.
-    pub fn count(self, old: &[u8], new: &[u8]) -> usize
-        ensures { result ≡ places_where (holds self) old.now new.now }
-    {
-        let mut count = 0;
-        for i in 0..old.len().min(new.len()) {
-            count += self.hits(old[i], new[i]);
-        }
-        count
-    }
+// They are equal.
+pub struct Equal;
 
-    // 1 where it holds, else 0.
-    fn hits(self, old: u8, new: u8) -> usize
-        ensures value { result ≡ (if holds self old new then 1 else 0) }
-        ensures bound { result ≤ 1 }
-    {
-        let yes = match self {
-            Test::Equal => old == new,
-            Test::Risen => old & new != new,
-        };
-        if yes { 1 } else { 0 }
+impl Test for Equal {
+    ghost test = { equal };
+
+    fn holds(old: u8, new: u8) -> bool {
+        old == new
+    }
+}
+
+// A bit that was 0 is 1.
+pub struct Risen;
+
+impl Test for Risen {
+    ghost test = { risen };
+
+    fn holds(old: u8, new: u8) -> bool {
+        old & new != new
     }
 }

@@ -1,15 +1,14 @@
 ghost use Rattle.std.specs.Prelude.{◌≡◌};
 ghost use Rattle.bench.specs.Words.{word_of};
 
-use arrays::answer::Answer;
+use arrays::error::ArrayError;
 
-// The word for an answer.
-pub fn word(answer: Answer) -> &'static str
+// The word for what an array answered.
+pub fn word(answer: Result<(), ArrayError>) -> &'static str
     ensures { result.now ≡ word_of answer }
 {
     match answer {
-        Answer::Done => "done",
-        Answer::Worn => "worn",
-        Answer::Absent => "absent",
+        Ok(()) => "done",
+        Err(error) => error.as_str(),
     }
 }

@@ -1,19 +1,14 @@
-use Rattle.std.proofs.Common.{◌≡◌, ◌+◌, ◌-◌, ◌*◌, ◌≤◌, length, take, drop, sym, ap, ◌∙◌, arith, rules}
-use Rattle.arrays.specs.Layout.{number}
-use Rattle.arrays.proofs.Found.{memory_block, memory_life}
+use Rattle.std.proofs.Common.{◌<◌, ◌≤◌, length, arith, rules}
+use Rattle.std.proofs.lemmas.Grind.{common_steps}
+use Rattle.arrays.specs.Kinds.{in_memory}
+use Rattle.arrays.proofs.Found.{life_sized, life_inside}
 use Rattle.arrays.proofs.memory.Memory.life.Goals as goal
 
-pub slice_bounds-number_in-end : goal.slice_bounds-number_in-end
-slice_bounds-number_in-end c =
-    let m = c.args.self.now in
-    let on = memory_block m c.args.block (omega (arith, c.blocks-2.ensures.count)) in
-    let h : 4 * c.args.block + 4 ≤ length m.bytes.now = omega (arith, on.sized.long, on.inside) in
-    search rules
+pub life_place-requires : goal.life_place-requires
+life_place-requires c = life_sized c.args.self.now c.args.block (grind (arith, common_steps))
 
-pub returns : goal.returns
-returns c =
-    let m = c.args.self.now in
-    let four : 4 * c.args.block + 4 - 4 * c.args.block ≡ 4 = omega arith in
-    c.number_in.ensures
-    ∙ ap (λ k. number (take k (drop (4 * c.args.block) m.bytes.now))) four
-    ∙ sym (memory_life m c.args.block (omega (arith, c.blocks-2.ensures.count)))
+pub slice_bounds-number_in-end-2 : goal.slice_bounds-number_in-end-2
+slice_bounds-number_in-end-2 c =
+    let b : c.args.block < (in_memory c.args.self.now).blocks = grind (arith, common_steps) in
+    let h : c.life_place.result.end ≤ length c.args.self.now.bytes.now = life_inside c.args.self.now c.args.block _ b c.life_place.ensures.end in
+    search rules

@@ -1,7 +1,7 @@
 use Rattle.std.proofs.Common.{◌≡◌}
 use Rattle.arrays.specs.Store.{renewed}
 use Rattle.arrays.specs.Kinds.{in_memory, SamePlace}
-use Rattle.arrays.proofs.memory.Memory.renew_below.Given as goal
+use Rattle.arrays.proofs.memory.Memory.renew.Given as goal
 
 -- the blocks before this one are new, on the same bytes
 abbrev pub invariant-loop-block : goal.invariant-loop-block
