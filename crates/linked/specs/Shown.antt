@@ -3,6 +3,7 @@ use Rattle.std.specs.Prelude.{◌≡◌, ℕ, List}
 use Rattle.arrays.specs.Store.{Store, has_block, present, lives, read_answer, write_answer, area_after, after_program, after_erase}
 use Rattle.links.specs.declared.entry.Entry.{Entry}
 use Rattle.links.specs.Links.{reach}
+use Rattle.linked.specs.declared.linked.Linked.{Linked}
 
 abbrev pub shown : List Entry → Store → Store
 shown es s = record {
@@ -11,6 +12,16 @@ shown es s = record {
   page = λ b q. s.page (reach s.blocks es b) q;
   life = λ b. s.life (reach s.blocks es b);
 }
+
+-- of a linked array, where `meaning` gives the store of the array below: N, what it shows, and the block that address b reaches
+abbrev pub block_count : {A : Type 0} → (A → Store) → Linked A → ℕ
+block_count meaning l = (meaning l.array).blocks
+
+abbrev pub showing : {A : Type 0} → (A → Store) → Linked A → Store
+showing meaning l = shown l.table.entries (meaning l.array)
+
+abbrev pub reached : {A : Type 0} → (A → Store) → Linked A → ℕ → ℕ
+reached meaning l b = reach (block_count meaning l) l.table.entries b
 
 -- what a call at block r of an array a is at address b of the linked array: `meaning` gives the stores of arrays of its kind
 pub record Through {Kind : Type 0} (meaning : Kind → Store) (es : List Entry) (a : Kind) (b r : ℕ) : Type 0 where

@@ -1,11 +1,12 @@
-ghost use Rattle.std.specs.Prelude.{◌≡◌, true, length};
+ghost use Rattle.std.specs.Prelude.{◌≡◌, true, length, is_ok};
 ghost use Rattle.arrays.specs.Store.{Shape, present, has_block, lives, write_answer, after_program, after_erase};
-ghost use Rattle.links.specs.Links.{reach, may_swap, after_swap};
+ghost use Rattle.links.specs.Links.{may_swap, swap_answer, after_swap};
 ghost use Rattle.links.specs.LinkLaws.{Turned};
-ghost use Rattle.linked.specs.Shown.{shown, Through};
+ghost use Rattle.linked.specs.Shown.{block_count, showing, reached, Through};
 
-use arrays::answer::Answer;
 use arrays::array::Array;
+use arrays::error::ArrayError;
+use links::swap::SwapError;
 use links::table::Table;
 
 // A linked array shows at each address the block of `array` that the address reaches.
@@ -30,12 +31,21 @@ impl<A: Array> Linked<A> {
         (array, table)
     }
 
-    // Does what a finished swap does, if it may be done, and answers whether it was.
-    pub fn swap(&mut self, first: u16, second: u16) -> bool
-        ensures answer { result ≡ may_swap (A.Array.meaning self.old.array).blocks first second self.old.table.entries }
+    // May a swap be done, and why not?
+    pub fn allows(&self, first: u16, second: u16) -> Result<(), SwapError>
+        ensures { result ≡ swap_answer (block_count A.Array.meaning self.now) first second self.now.table.entries }
+    {
+        let n = self.size();
+        self.table.allows(n, first, second)
+    }
+
+    // Does what a finished swap does, if it may be done.
+    pub fn swap(&mut self, first: u16, second: u16) -> Result<(), SwapError>
+        ensures answer { result ≡ swap_answer (block_count A.Array.meaning self.old) first second self.old.table.entries }
+        ensures allowed { is_ok result ≡ may_swap (block_count A.Array.meaning self.old) first second self.old.table.entries }
         ensures array { self.new.array ≡ self.old.array }
-        ensures after { self.new.table.entries ≡ after_swap (A.Array.meaning self.old.array).blocks first second self.old.table.entries }
-        ensures turned { result ≡ true → Turned (A.Array.meaning self.old.array).blocks first second self.old.table.entries self.new.table.entries }
+        ensures after { self.new.table.entries ≡ after_swap (block_count A.Array.meaning self.old) first second self.old.table.entries }
+        ensures turned { is_ok result ≡ true → Turned (block_count A.Array.meaning self.old) first second self.old.table.entries self.new.table.entries }
     {
         let n = self.size();
         self.table.swap(n, first, second)
@@ -43,15 +53,16 @@ impl<A: Array> Linked<A> {
 
     // N, the same as that of `array`.
     fn size(&self) -> usize
-        ensures count { result ≡ (A.Array.meaning self.now.array).blocks }
-        ensures shape { Shape (shown self.now.table.entries (A.Array.meaning self.now.array)) }
+        ensures count { result ≡ block_count A.Array.meaning self.now }
+        ensures shape { Shape (showing A.Array.meaning self.now) }
     {
         self.array.blocks()
     }
 
     // The block of `array` that the address reaches: a call there is what the call at the address should be.
+    #[tactic(auto, using(crate::proofs::Showing::through))]
     fn reached(&self, address: usize) -> usize
-        ensures block { result ≡ reach (A.Array.meaning self.now.array).blocks self.now.table.entries address }
+        ensures block { result ≡ reached A.Array.meaning self.now address }
         ensures through { Through A.Array.meaning self.now.table.entries self.now.array address result }
     {
         let n = self.size();
@@ -60,7 +71,7 @@ impl<A: Array> Linked<A> {
 }
 
 impl<A: Array> Array for Linked<A> {
-    ghost meaning = { λ l. shown l.table.entries (A.Array.meaning l.array) };
+    ghost meaning = { showing A.Array.meaning };
 
     ghost kept = { λ l k. A.Array.kept l.array k.array × (k.table ≡ l.table) };
 
@@ -72,26 +83,26 @@ impl<A: Array> Array for Linked<A> {
         self.array.pages()
     }
 
-    fn read(&self, block: usize, page: usize, area: &mut [u8]) -> Answer {
+    fn read(&self, block: usize, page: usize, area: &mut [u8]) -> Result<(), ArrayError> {
         let reached = self.reached(block);
         self.array.read(reached, page, area)
     }
 
-    fn program(&mut self, block: usize, page: usize, bytes: &[u8]) -> Answer
-        ensures answer { result ≡ write_answer (present (shown self.old.table.entries (A.Array.meaning self.old.array)) block page (length bytes.now)) (lives (shown self.old.table.entries (A.Array.meaning self.old.array)) block) }
-        ensures after { shown self.new.table.entries (A.Array.meaning self.new.array) ≡ after_program (shown self.old.table.entries (A.Array.meaning self.old.array)) block page bytes.now }
+    fn program(&mut self, block: usize, page: usize, bytes: &[u8]) -> Result<(), ArrayError>
+        ensures answer { result ≡ write_answer (present (showing A.Array.meaning self.old) block page (length bytes.now)) (lives (showing A.Array.meaning self.old) block) }
+        ensures after { showing A.Array.meaning self.new ≡ after_program (showing A.Array.meaning self.old) block page bytes.now }
         ensures kept { A.Array.kept self.old.array self.new.array × (self.new.table ≡ self.old.table) }
-        ensures below { A.Array.meaning self.new.array ≡ after_program (A.Array.meaning self.old.array) (reach (A.Array.meaning self.old.array).blocks self.old.table.entries block) page bytes.now }
+        ensures below { A.Array.meaning self.new.array ≡ after_program (A.Array.meaning self.old.array) (reached A.Array.meaning self.old block) page bytes.now }
     {
         let reached = self.reached(block);
         self.array.program(reached, page, bytes)
     }
 
-    fn erase(&mut self, block: usize) -> Answer
-        ensures answer { result ≡ write_answer (has_block (shown self.old.table.entries (A.Array.meaning self.old.array)) block) (lives (shown self.old.table.entries (A.Array.meaning self.old.array)) block) }
-        ensures after { shown self.new.table.entries (A.Array.meaning self.new.array) ≡ after_erase (shown self.old.table.entries (A.Array.meaning self.old.array)) block }
+    fn erase(&mut self, block: usize) -> Result<(), ArrayError>
+        ensures answer { result ≡ write_answer (has_block (showing A.Array.meaning self.old) block) (lives (showing A.Array.meaning self.old) block) }
+        ensures after { showing A.Array.meaning self.new ≡ after_erase (showing A.Array.meaning self.old) block }
         ensures kept { A.Array.kept self.old.array self.new.array × (self.new.table ≡ self.old.table) }
-        ensures below { A.Array.meaning self.new.array ≡ after_erase (A.Array.meaning self.old.array) (reach (A.Array.meaning self.old.array).blocks self.old.table.entries block) }
+        ensures below { A.Array.meaning self.new.array ≡ after_erase (A.Array.meaning self.old.array) (reached A.Array.meaning self.old block) }
     {
         let reached = self.reached(block);
         self.array.erase(reached)

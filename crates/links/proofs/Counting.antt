@@ -1,34 +1,21 @@
--- How many entries are used: at most as many as there are, and all of them in a full table; a swap leaves their number.
-use Rattle.std.proofs.Common.{◌≡◌, ℕ, ◌<◌, ◌≤◌, true, false, List, [], ◌∷◌, length, refl, ◌∙◌, arith}
-use Rattle.std.proofs.lemmas.List.{length-map}
-use Rattle.std.proofs.lemmas.Bool.{both_ways}
+-- What is said of all entries, by the words of the library that the chains over them mean.
+use Rattle.std.proofs.Common.{◌≡◌, ℕ, ◌&&◌, ◌||◌, List, [], ◌∷◌, refl}
+use Rattle.std.specs.List.{count_by, list_all, list_any}
+use Rattle.std.proofs.lemmas.List.Recursion.{is_count_by}
 use Rattle.links.specs.declared.entry.Entry.{Entry}
-use Rattle.links.specs.declared.entry.Entry.TheVariants.{Unused, Live, Retired}
-use Rattle.links.specs.Links.{used, full, retired_if, retire, place, swapped}
+use Rattle.links.specs.Links.{is_used, used, full, holds, ends, linked, second}
 
-pub used_most : (es : List Entry) → used es ≤ length es
-used_most [] = omega arith
-used_most (Unused ∷ es) = let ih = used_most es in omega arith
-used_most (Live a b ∷ es) = let ih = used_most es in omega arith
-used_most (Retired a b ∷ es) = let ih = used_most es in omega arith
+pub used_count : (es : List Entry) → used es ≡ count_by is_used es
+used_count = is_count_by used is_used refl (λ _ _. refl)
 
-pub used_full : (es : List Entry) → full es ≡ true → used es ≡ length es
-used_full [] h = refl
-used_full (Unused ∷ es) h = absurd (both_ways false refl h)
-used_full (Live a b ∷ es) h = let ih = used_full es h in omega arith
-used_full (Retired a b ∷ es) h = let ih = used_full es h in omega arith
+pub full_all : (es : List Entry) → full es ≡ list_all is_used es
+full_all [] = refl
+full_all (e ∷ es) = λ i. is_used e && full_all es i
 
-pub used_room : (es : List Entry) → full es ≡ false → used es < length es
-used_room [] h = absurd (both_ways true h refl)
-used_room (Unused ∷ es) h = let most = used_most es in omega arith
-used_room (Live a b ∷ es) h = let ih = used_room es h in omega arith
-used_room (Retired a b ∷ es) h = let ih = used_room es h in omega arith
+pub linked_any : (x : ℕ) (es : List Entry) → linked x es ≡ list_any (holds x) es
+linked_any x [] = refl
+linked_any x (e ∷ es) = λ i. holds x e || linked_any x es i
 
-pub length_place : (a b : ℕ) (es : List Entry) → length (place a b es) ≡ length es
-length_place a b [] = refl
-length_place a b (Unused ∷ es) = refl
-length_place a b (Live c d ∷ es) = let ih = length_place a b es in omega arith
-length_place a b (Retired c d ∷ es) = let ih = length_place a b es in omega arith
-
-pub length_swapped : (a b : ℕ) (es : List Entry) → length (swapped a b es) ≡ length es
-length_swapped a b es = length_place a b (retire a es) ∙ length-map es (retired_if a)
+pub second_any : (x : ℕ) (es : List Entry) → second x es ≡ list_any (ends x) es
+second_any x [] = refl
+second_any x (e ∷ es) = λ i. ends x e || second_any x es i

@@ -1,9 +1,11 @@
 -- The link table: which block an address reaches, what a swap may not do, what a finished swap leaves, and the table's bytes.
-use Rattle.std.specs.Prelude.{ℕ, ◌+◌, ◌/◌, ◌%◌, Bool, true, false, cond, not, ◌&&◌, ◌||◌, List, [], ◌∷◌, ◌++◌, map, replicate, Some, None, Option, ◌==◌, nat_lt}
+use Rattle.std.specs.Prelude.{ℕ, ◌+◌, ◌/◌, ◌%◌, Bool, true, false, cond, not, ◌&&◌, ◌||◌, List, [], ◌∷◌, ◌++◌, map, replicate, Some, None, Option, Ok, Err, Result, ◌==◌, nat_lt}
 use Rattle.std.specs.List.{flat_map}
 use Rattle.std.specs.Option.{unwrap_or, option_or}
 use Rattle.links.specs.declared.entry.Entry.{Entry}
 use Rattle.links.specs.declared.entry.Entry.TheVariants.{Unused, Live, Retired}
+use Rattle.links.specs.declared.swap.SwapError.{SwapError}
+use Rattle.links.specs.declared.swap.SwapError.TheVariants.{Outside, Linked, Full}
 
 -- the number of entries of a table
 abbrev pub capacity : ℕ
@@ -101,6 +103,10 @@ taken a b es = linked b es || second a es
 -- a swap may be done unless one of these holds or no entry is unused
 abbrev pub may_swap : ℕ → ℕ → ℕ → List Entry → Bool
 may_swap n a b es = not (outside n a b || (taken a b es || full es))
+
+-- the first of these that holds is why it may not
+abbrev pub swap_answer : ℕ → ℕ → ℕ → List Entry → Result (Unit {0}) SwapError
+swap_answer n a b es = cond (outside n a b) (Err Outside) (cond (taken a b es) (Err Linked) (cond (full es) (Err Full) (Ok tt)))
 
 -- the live link whose first address is a is retired
 abbrev pub retired_if : ℕ → Entry → Entry

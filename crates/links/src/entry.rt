@@ -2,7 +2,7 @@ ghost use Rattle.std.specs.Prelude.{◌≡◌};
 ghost use Rattle.links.specs.Links.{is_used, holds, ends, other, retired_if, word, entry_bytes};
 
 // An entry of a link table.
-#[derive(Clone, Copy)]
+#[derive(Clone, Copy, PartialEq, Eq, Debug)]
 pub enum Entry {
     Unused,
     // each of the two addresses reaches the other's block
@@ -15,30 +15,21 @@ impl Entry {
     pub(crate) fn is_used(self) -> bool
         ensures { result ≡ is_used self }
     {
-        match self {
-            Entry::Unused => false,
-            Entry::Live { .. } | Entry::Retired { .. } => true,
-        }
+        !matches!(self, Entry::Unused)
     }
 
     // Is the address one of a live link?
     pub(crate) fn holds(self, address: u16) -> bool
         ensures { result ≡ holds address self }
     {
-        match self {
-            Entry::Live { first, second } => address == first || address == second,
-            Entry::Unused | Entry::Retired { .. } => false,
-        }
+        matches!(self, Entry::Live { first, second } if address == first || address == second)
     }
 
     // Is the address the second one of a live link?
     pub(crate) fn ends_at(self, address: u16) -> bool
         ensures { result ≡ ends address self }
     {
-        match self {
-            Entry::Live { second, .. } => address == second,
-            Entry::Unused | Entry::Retired { .. } => false,
-        }
+        matches!(self, Entry::Live { second, .. } if address == second)
     }
 
     // The other address of a live link, wholly below `n`, that has the address.

@@ -1,6 +1,5 @@
 #![tactic(auto)]
 
-mod entries;
 pub mod entry;
 pub mod swap;
 pub mod table;

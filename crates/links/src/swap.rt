@@ -1,32 +1,25 @@
-ghost use Rattle.std.specs.Prelude.{◌≡◌, ℕ, ◌<◌, true, length, MatchOption, slice_set};
-ghost use Rattle.links.specs.declared.entry.Entry.TheVariants.{Live};
-ghost use Rattle.links.specs.Links.{sound, outside, taken, may_swap, retire, place, swapped};
+ghost use Rattle.std.specs.Prelude.{◌≡◌, ℕ, true, not, position};
+ghost use Rattle.links.specs.Links.{is_used, sound, outside, may_swap, retire, place, swapped};
 ghost use Rattle.links.specs.LinkLaws.{Turned};
 
-use crate::entries::{all_used, is_linked, is_second};
 use crate::entry::Entry;
 
-// Is an address of a swap not below `n`, or are the two the same?
+// Why a swap may not be done, in the order in which the reasons are tried.
+#[derive(Clone, Copy, PartialEq, Eq, Debug)]
+pub enum SwapError {
+    // an address is not among the blocks, or the two are the same
+    Outside,
+    // the second address is in a live link, or the first one second in one
+    Linked,
+    // no entry is unused
+    Full,
+}
+
+// Is an address of a swap not below `n`, or are the two the same? They stay two numbers, as a frame sends them; `n` is the array's and no part of a table.
 pub fn is_outside(n: usize, first: u16, second: u16) -> bool
     ensures { result ≡ outside n first second }
 {
     usize::from(first) >= n || usize::from(second) >= n || first == second
-}
-
-// Is the second address of a swap in a live link, or the first one second in one?
-pub(crate) fn is_taken(entries: &[Entry], first: u16, second: u16) -> bool
-    ensures { result ≡ taken first second entries.now }
-{
-    is_linked(entries, second) || is_second(entries, first)
-}
-
-// May the swap be done? If so it leaves a table, and turns the addresses that it should.
-pub(crate) fn is_allowed(entries: &[Entry], n: usize, first: u16, second: u16) -> bool
-    ensures answer { result ≡ may_swap n first second entries.now }
-    ensures sound { sound entries.now ≡ true → result ≡ true → sound (swapped first second entries.now) ≡ true }
-    ensures law { sound entries.now ≡ true → result ≡ true → Turned n first second entries.now (swapped first second entries.now) }
-{
-    !(is_outside(n, first, second) || is_taken(entries, first, second) || all_used(entries))
 }
 
 // Retires the live link whose first address this is.
@@ -40,17 +33,13 @@ fn retire_link(entries: &mut [Entry], first: u16)
 
 // Where a new link is placed.
 fn first_unused(entries: &[Entry]) -> Option<usize>
-    ensures { MatchOption result ((a b : ℕ) → place a b entries.now ≡ entries.now) (λ i. (i < length entries.now) × ((a b : ℕ) → place a b entries.now ≡ slice_set entries.now i (Live a b))) }
+    ensures { result ≡ position (λ e. not (is_used e)) entries.now }
 {
-    for (i, e) in entries.iter().enumerate() {
-        if !e.is_used() {
-            return Some(i);
-        }
-    }
-    None
+    entries.iter().position(|e| !e.is_used())
 }
 
 // Writes a live link into the first unused entry.
+#[tactic(auto, using(crate::proofs::Placing::place_at, crate::proofs::Placing::place_full))]
 fn place_link(entries: &mut [Entry], first: u16, second: u16)
     ensures { entries.new ≡ place first second entries.old }
 {
@@ -61,7 +50,11 @@ fn place_link(entries: &mut [Entry], first: u16, second: u16)
 
 // Does what a finished swap does.
 pub(crate) fn swap_among(entries: &mut [Entry], first: u16, second: u16)
-    ensures { entries.new ≡ swapped first second entries.old }
+    ensures after { entries.new ≡ swapped first second entries.old }
+
+    // A swap that may be done leaves a table, and turns the addresses that it should.
+    ensures sound { (n : ℕ) → sound entries.old ≡ true → may_swap n first second entries.old ≡ true → sound entries.new ≡ true }
+    ensures turned { (n : ℕ) → sound entries.old ≡ true → may_swap n first second entries.old ≡ true → Turned n first second entries.old entries.new }
 {
     retire_link(entries, first);
     place_link(entries, first, second);

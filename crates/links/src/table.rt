@@ -1,10 +1,9 @@
-ghost use Rattle.std.specs.Prelude.{◌≡◌, true, length};
-ghost use Rattle.links.specs.Links.{capacity, no_links, sound, partner, reach, used, full, taken, may_swap, after_swap, table_bytes};
+ghost use Rattle.std.specs.Prelude.{◌≡◌, ◌*◌, true, length, is_ok};
+ghost use Rattle.links.specs.Links.{capacity, no_links, sound, partner, reach, used, full, linked, second, taken, may_swap, swap_answer, after_swap, table_bytes};
 ghost use Rattle.links.specs.LinkLaws.{Paired, Turned};
 
-use crate::entries::{all_used, count_used, partner_among, write_bytes};
 use crate::entry::Entry;
-use crate::swap::{is_allowed, is_taken, swap_among};
+use crate::swap::{SwapError, is_outside, swap_among};
 
 // The number of entries of a table.
 pub const ENTRIES: usize = 20;
@@ -38,19 +37,20 @@ impl Table {
     }
 
     // The block of `n` that the address reaches.
+    #[tactic(auto, using(crate::proofs::Reaching::paired))]
     pub fn reach(&self, n: usize, address: usize) -> usize
         ensures answer { result ≡ reach n self.now.entries address }
         ensures paired { Paired n self.now.entries }
     {
-        let partner = partner_among(&self.entries, n, address);
-        partner.unwrap_or(address)
+        self.partner(n, address).unwrap_or(address)
     }
 
     // The number of used entries.
+    #[tactic(auto, using(crate::proofs::Counting::used_count))]
     pub fn used(&self) -> usize
         ensures { result ≡ used self.now.entries }
     {
-        count_used(&self.entries)
+        self.entries.iter().filter(|e| e.is_used()).count()
     }
 
     // Is no entry unused?
@@ -69,23 +69,75 @@ impl Table {
         bytes
     }
 
+    // Is the address one of a live link?
+    fn is_linked(&self, address: u16) -> bool
+        ensures { result ≡ linked address self.now.entries }
+    {
+        self.entries.iter().any(|e| e.holds(address))
+    }
+
+    // Is the address the second one of a live link?
+    fn is_second(&self, address: u16) -> bool
+        ensures { result ≡ second address self.now.entries }
+    {
+        self.entries.iter().any(|e| e.ends_at(address))
+    }
+
     // Is the second address of a swap in a live link, or the first one second in one?
     pub fn is_taken(&self, first: u16, second: u16) -> bool
         ensures { result ≡ taken first second self.now.entries }
     {
-        is_taken(&self.entries, first, second)
+        self.is_linked(second) || self.is_second(first)
     }
 
-    // Does what a finished swap does, if it may be done, and answers whether it was.
-    pub fn swap(&mut self, n: usize, first: u16, second: u16) -> bool
-        ensures answer { result ≡ may_swap n first second self.old.entries }
-        ensures after { self.new.entries ≡ after_swap n first second self.old.entries }
-        ensures turned { result ≡ true → Turned n first second self.old.entries self.new.entries }
+    // May a swap be done, and why not?
+    pub fn allows(&self, n: usize, first: u16, second: u16) -> Result<(), SwapError>
+        ensures { result ≡ swap_answer n first second self.now.entries }
     {
-        let allowed = is_allowed(&self.entries, n, first, second);
-        if allowed {
-            swap_among(&mut self.entries, first, second);
+        if is_outside(n, first, second) {
+            Err(SwapError::Outside)
+        } else if self.is_taken(first, second) {
+            Err(SwapError::Linked)
+        } else if self.is_full() {
+            Err(SwapError::Full)
+        } else {
+            Ok(())
         }
-        allowed
+    }
+
+    // Does what a finished swap does, if it may be done.
+    pub fn swap(&mut self, n: usize, first: u16, second: u16) -> Result<(), SwapError>
+        ensures answer { result ≡ swap_answer n first second self.old.entries }
+        ensures allowed { is_ok result ≡ may_swap n first second self.old.entries }
+        ensures after { self.new.entries ≡ after_swap n first second self.old.entries }
+        ensures turned { is_ok result ≡ true → Turned n first second self.old.entries self.new.entries }
+    {
+        self.allows(n, first, second)?;
+        swap_among(&mut self.entries, first, second);
+        Ok(())
+    }
+}
+
+// The other address of the first such link among the entries.
+fn partner_among(entries: &[Entry], n: usize, address: usize) -> Option<usize>
+    ensures { result ≡ partner n entries.now address }
+{
+    entries.iter().find_map(|e| e.other(n, address))
+}
+
+fn all_used(entries: &[Entry]) -> bool
+    ensures { result ≡ full entries.now }
+{
+    entries.iter().all(|e| e.is_used())
+}
+
+// Writes the bytes of the entries over the area.
+fn write_bytes(entries: &[Entry], area: &mut [u8])
+    requires { length area.old ≡ 4 * length entries.now }
+    ensures { area.new ≡ table_bytes entries.now }
+{
+    // A loop over places, since what is written through `chunks_exact_mut` is not known afterwards.
+    for (i, e) in entries.iter().enumerate() {
+        area[4 * i..4 * i + 4].copy_from_slice(&e.bytes());
     }
 }

@@ -2,7 +2,7 @@ use Rattle.std.proofs.Common.{sym, ap, ◌∙◌, arith}
 use Rattle.std.proofs.lemmas.List.{take_all}
 use Rattle.links.specs.Links.{table_bytes}
 use Rattle.links.proofs.Bytes.{bytes_more}
-use Rattle.links.proofs.entries.write_bytes.Goals as goal
+use Rattle.links.proofs.table.write_bytes.Goals as goal
 
 pub loop-i-preserved : goal.loop-i-preserved
 loop-i-preserved c =
