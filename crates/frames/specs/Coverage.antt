@@ -1,5 +1,6 @@
 -- Every line's count of sent bytes covers the values of its group.
-use Rattle.std.specs.Prelude.{ℕ, ◌≤◌, Bool, true, ◌&&◌, List, [], ◌∷◌, Some, None, Option, nat_le}
+use Rattle.std.specs.Prelude.{ℕ, ◌≤◌, Bool, List, Some, None, Option, nat_le}
+use Rattle.std.specs.List.{list_all}
 use Rattle.frames.specs.declared.line.Group.{Group}
 use Rattle.frames.specs.declared.line.Group.TheVariants.{Plain, ReadRegister, WriteRegister, Swap, AtRow, LoadBuffer, ReadBuffer}
 use Rattle.frames.specs.declared.line.Count.{Count}
@@ -24,8 +25,7 @@ abbrev pub covers : Line → Bool
 covers line = nat_le (needed line.1) (least_sent line.2)
 
 abbrev pub all_cover : List Line → Bool
-all_cover [] = true
-all_cover (x ∷ xs) = covers x && all_cover xs
+all_cover lines = list_all covers lines
 
 abbrev pub Covered : Option Line → Type 0
 Covered None = Unit {0}

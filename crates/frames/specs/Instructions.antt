@@ -1,5 +1,6 @@
 -- The instruction codes: what each asks for, how many bytes are sent with it, and what the /WP pin has to do with it.
-use Rattle.std.specs.Prelude.{ℕ, Bool, true, false, cond, ◌||◌, List, [], ◌∷◌, ◌++◌, map, Some, None, Option, ◌==◌, nat_le}
+use Rattle.std.specs.Prelude.{ℕ, Bool, true, false, cond, List, [], ◌∷◌, ◌++◌, map, Option, ◌==◌, nat_le}
+use Rattle.std.specs.List.{find, list_any}
 use Rattle.frames.specs.declared.instruction.Simple.TheVariants.{Reset, EnableWrite, DisableWrite, Identify, ListLinks}
 use Rattle.frames.specs.declared.instruction.RowOperation.TheVariants.{Program, Erase, Fetch}
 use Rattle.frames.specs.declared.line.Group.{Group}
@@ -52,8 +53,7 @@ abbrev pub write_codes : List ℕ
 write_codes = 0x01 ∷ 0x1F ∷ 0x02 ∷ 0x84 ∷ 0x10 ∷ 0xD8 ∷ 0xA1 ∷ []
 
 abbrev pub in_list : ℕ → List ℕ → Bool
-in_list c [] = false
-in_list c (x ∷ xs) = c == x || in_list c xs
+in_list c xs = list_any (λ x. c == x) xs
 
 abbrev pub count_in : ℕ → List (List ℕ × ℕ) → ℕ
 count_in c [] = 0
@@ -75,8 +75,7 @@ lines_of (x ∷ xs) = map (line x.1) x.0 ++ lines_of xs
 
 -- the first line with the code
 abbrev pub first : ℕ → List Line → Option Line
-first c [] = None
-first c (x ∷ xs) = cond (x.0 == c) (Some x) (first c xs)
+first c lines = find (λ x. x.0 == c) lines
 
 abbrev pub line_of : ℕ → Option Line
 line_of c = first c (lines_of groups)

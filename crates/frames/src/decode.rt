@@ -23,18 +23,6 @@ fn column_of(high: u8, low: u8) -> u16
     word_of(high, low) % 4096
 }
 
-// A load taken apart: the high and low byte of its column, and its data.
-fn load_parts(sent: &[u8]) -> (u8, u8, &[u8])
-    requires { 3 ≤ length sent.now }
-    ensures column { (result.0 ≡ slice_index sent.now 1) × (result.1 ≡ slice_index sent.now 2) }
-    ensures rest { result.2.now ≡ drop 3 sent.now }
-{
-    match sent {
-        [_code, high, low, data @ ..] => (*high, *low, data),
-        _ => unreachable(),
-    }
-}
-
 // The instruction of a group, of whose bytes enough were sent.
 fn instruction_of(group: Group, sent: &[u8]) -> Instruction<'_>
     requires { needed group ≤ length sent.now }
@@ -55,14 +43,11 @@ fn instruction_of(group: Group, sent: &[u8]) -> Instruction<'_>
             operation,
             row: word_of(*high, *low),
         },
-        (Group::LoadBuffer { refill }, _) => {
-            let (high, low, data) = load_parts(sent);
-            Instruction::LoadBuffer {
-                refill,
-                column: column_of(high, low),
-                data,
-            }
-        }
+        (Group::LoadBuffer { refill }, [_, high, low, data @ ..]) => Instruction::LoadBuffer {
+            refill,
+            column: column_of(*high, *low),
+            data,
+        },
         (Group::ReadBuffer, [_, high, low, ..]) => Instruction::ReadBuffer {
             column: column_of(*high, *low),
         },
@@ -76,12 +61,8 @@ pub fn decode(sent: &[u8]) -> Result<Frame<'_>, FrameRefusal>
     ensures shown { Shown result sent.now }
     ensures borrowed { Borrowed result sent.now }
 {
-    let Some(code) = sent.first() else {
-        return Err(FrameRefusal::UnlistedCode);
-    };
-    let Some(Line(_, group, count, flags)) = find(*code) else {
-        return Err(FrameRefusal::UnlistedCode);
-    };
+    let line = sent.first().and_then(|code| find(*code));
+    let Line(_, group, count, flags) = line.ok_or(FrameRefusal::UnlistedCode)?;
     if !count.allows(sent.len()) {
         return Err(FrameRefusal::WrongCount);
     }

@@ -1,7 +1,7 @@
 use crate::instruction::Instruction;
 
 // What the /WP pin has to do with a code: it may forbid one that writes, and a quad one needs the pin as a data line.
-#[derive(Clone, Copy, PartialEq)]
+#[derive(Clone, Copy, PartialEq, Eq, Debug)]
 pub struct Flags {
     pub write: bool,
     pub quad: bool,
@@ -25,7 +25,7 @@ impl Flags {
 }
 
 // An instruction and the flags of its code.
-#[derive(Clone, Copy)]
+#[derive(Clone, Copy, PartialEq, Eq, Debug)]
 pub struct Frame<'a> {
     pub instruction: Instruction<'a>,
     pub flags: Flags,

@@ -1,5 +1,5 @@
 // What is asked for by a code alone.
-#[derive(Clone, Copy, PartialEq)]
+#[derive(Clone, Copy, PartialEq, Eq, Debug)]
 pub enum Simple {
     Reset,
     EnableWrite,
@@ -9,7 +9,7 @@ pub enum Simple {
 }
 
 // What is done at a row: the buffer is programmed into its page, its block is erased, or its page is fetched into the buffer.
-#[derive(Clone, Copy, PartialEq)]
+#[derive(Clone, Copy, PartialEq, Eq, Debug)]
 pub enum RowOperation {
     Program,
     Erase,
@@ -20,7 +20,7 @@ pub enum RowOperation {
 pub type RowAddress = u16;
 
 // An instruction with the values that were sent. A load borrows its data; with `refill` it sets all other bytes of the buffer to FFh.
-#[derive(Clone, Copy)]
+#[derive(Clone, Copy, PartialEq, Eq, Debug)]
 pub enum Instruction<'a> {
     Plain(Simple),
     ReadRegister {

@@ -1,21 +1,17 @@
 ghost use Rattle.std.specs.Prelude.{◌≡◌};
 ghost use Rattle.frames.specs.Refusals.{refusal_number};
 
-// Why the sent bytes are no frame.
-#[derive(Clone, Copy, PartialEq)]
+// Why the sent bytes are no frame, with the outcome that a card answers.
+#[derive(Clone, Copy, PartialEq, Eq, Debug)]
 pub enum FrameRefusal {
-    UnlistedCode,
-    WrongCount,
+    UnlistedCode = 2,
+    WrongCount = 3,
 }
 
 impl FrameRefusal {
-    // The outcome that a card answers.
     pub fn number(self) -> u8
         ensures { result ≡ refusal_number self }
     {
-        match self {
-            FrameRefusal::UnlistedCode => 2,
-            FrameRefusal::WrongCount => 3,
-        }
+        self as u8
     }
 }

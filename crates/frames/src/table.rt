@@ -40,17 +40,13 @@ const TABLE: [Line; 27] = [
 ];
 
 // The first of the lines with the code.
+#[tactic(auto, using(crate::proofs::Covering::first_covers))]
 fn among(lines: &[Line], code: u8) -> Option<Line>
     requires { all_cover lines.now ≡ true }
     ensures line { result ≡ first code lines.now }
     ensures covered { Covered result }
 {
-    for line in lines {
-        if line.0 == code {
-            return Some(*line);
-        }
-    }
-    None
+    lines.iter().find(|line| line.0 == code).copied()
 }
 
 // The line of a code, if the code is listed.

@@ -3,6 +3,4 @@
 #[cfg(test)]
 mod expected;
 #[cfg(test)]
-mod seen;
-#[cfg(test)]
 mod tests;

@@ -1,24 +1,17 @@
 use crate::expected::{AFTER, expected};
-use crate::seen::{data_or, seen};
 use frames::decode::decode;
 use frames::refusal::FrameRefusal;
 use std::process::Abort;
 use std::test::Fail;
 
 fn agrees(rt: &impl Abort, code: u8, sent: &[u8]) -> Result<(), Fail> {
-    let answer = decode(sent);
-    assert!(rt;
-        seen(answer) == expected(code, sent.len()),
+    assert_eq!(rt;
+        decode(sent),
+        expected(code, sent),
         "code {code}, {} bytes",
         sent.len()
     );
-    match sent {
-        [_, _, _, data @ ..] => {
-            assert_eq!(rt; data_or(answer, data), data, "code {code}");
-            Ok(())
-        },
-        _ => Ok(()),
-    }
+    Ok(())
 }
 
 fn agrees_at_each_length(rt: &impl Abort, code: u8) -> Result<(), Fail> {

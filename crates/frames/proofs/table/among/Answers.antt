@@ -1,14 +1,9 @@
-use Rattle.std.proofs.Common.{rules}
-use Rattle.std.proofs.lemmas.List.{at_drop_more, at_drop_all}
-use Rattle.frames.specs.Instructions.{first}
-use Rattle.frames.specs.Coverage.{all_cover}
+use Rattle.std.proofs.Common.{eqb, ◌∙◌, rules, tests}
+use Rattle.std.proofs.lemmas.Iterator.{YieldsList-from_slice}
+use Rattle.std.proofs.lemmas.Iterator.Search.{find_from_yields_List}
 use Rattle.frames.proofs.table.among.Goals as goal
 
-pub loop-line-preserved : goal.loop-line-preserved
-loop-line-preserved c = search (rules, at_drop_more (first c.args.code), at_drop_more all_cover)
-
-pub returns : goal.returns
-returns c = search (rules, at_drop_all (first c.args.code))
-
-pub returns-then-line-code : goal.returns-then-line-code
-returns-then-line-code c = search (rules, at_drop_more (first c.args.code), at_drop_more all_cover)
+pub returns-clause-line : goal.returns-clause-line
+returns-clause-line c =
+    c.copied.ensures
+    ∙ find_from_yields_List (λ x. eqb x.0 c.args.code) _ _ c.find.result c.find.ensures.ran (YieldsList-from_slice c.args.lines.now cc) (λ x b q k. search (rules, tests))
