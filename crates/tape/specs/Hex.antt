@@ -1,6 +1,6 @@
 -- Bytes in upper-case hexadecimal, two digits for each, the high one first.
-use Rattle.std.specs.Prelude.{ℕ, ◌+◌, ◌-◌, ◌*◌, ◌/◌, ◌%◌, Bool, true, cond, ◌&&◌, ◌||◌, List, [], ◌∷◌, map, length, nat_le, nat_lt, slice_index}
-use Rattle.std.specs.List.{range_with_len, flat_map}
+use Rattle.std.specs.Prelude.{ℕ, ◌+◌, ◌-◌, ◌*◌, ◌/◌, ◌%◌, Bool, cond, ◌&&◌, ◌||◌, List, [], ◌∷◌, nat_le, nat_lt}
+use Rattle.std.specs.List.{flat_map, list_all}
 
 -- 0 to 9
 abbrev pub is_digit : ℕ → Bool
@@ -14,8 +14,7 @@ abbrev pub is_hex : ℕ → Bool
 is_hex d = is_digit d || is_letter d
 
 abbrev pub all_hex : List ℕ → Bool
-all_hex [] = true
-all_hex (d ∷ ds) = is_hex d && all_hex ds
+all_hex ds = list_all is_hex ds
 
 -- ---- from digits to bytes
 
@@ -23,12 +22,11 @@ all_hex (d ∷ ds) = is_hex d && all_hex ds
 abbrev pub hex_value : ℕ → ℕ
 hex_value d = cond (is_digit d) (d - 48) (cond (is_letter d) (d - 55) 0)
 
-abbrev pub byte_at : List ℕ → ℕ → ℕ
-byte_at ds k = 16 * hex_value (slice_index ds (2 * k)) + hex_value (slice_index ds (2 * k + 1))
-
 -- the bytes that the digits stand for; an odd digit at the end stands for none
 abbrev pub bytes_in : List ℕ → List ℕ
-bytes_in ds = map (byte_at ds) (range_with_len 0 (length ds / 2))
+bytes_in [] = []
+bytes_in (d ∷ []) = []
+bytes_in (high ∷ low ∷ ds) = (16 * hex_value high + hex_value low) ∷ bytes_in ds
 
 -- ---- from bytes to digits
 

@@ -20,8 +20,12 @@ is_level d = d == 48 || d == 49
 abbrev pub is_head : List ℕ → Bool
 is_head line = slice_index line 0 == 84 && (slice_index line 1 == 88 && (slice_index line 2 == 32 && (is_level (slice_index line 3) && (slice_index line 4 == 32 && (is_digit (slice_index line 5) && (is_digit (slice_index line 6) && slice_index line 7 == 32))))))
 
+-- of two digits
+abbrev pub number_of : ℕ → ℕ → ℕ
+number_of tens units = 10 * (tens - 48) + (units - 48)
+
 abbrev pub area_length : List ℕ → ℕ
-area_length line = 10 * (slice_index line 5 - 48) + (slice_index line 6 - 48)
+area_length line = number_of (slice_index line 5) (slice_index line 6)
 
 -- at most 64 bytes, two digits for each
 abbrev pub are_bytes : List ℕ → Bool

@@ -1,42 +1,24 @@
-ghost use Rattle.std.specs.Prelude.{◌≡◌, ◌≤◌, length, take, decimal};
-ghost use Rattle.tape.specs.Answers.{unknown_text, transaction_text};
-ghost use Rattle.tape.specs.Views.{written, kept};
+ghost use Rattle.std.specs.Prelude.{◌≡◌, ◌+◌, ◌≤◌, ◌++◌, length, take, decimal};
+ghost use Rattle.tape.specs.Answers.{unknown_text, counts_text, area_text, transaction_text};
 
+use crate::hex::byte_digits;
 use crate::record::LONGEST_AREA;
-use crate::text::{CAPACITY, Text};
-
-// It stands twice for a line that is no record.
-const QUERY: u8 = b'?';
+use crate::text::Text;
+use itoa::Buffer;
 
 impl Text {
-    pub fn as_bytes(&self) -> &[u8]
-        ensures { result.now ≡ written self.now }
-    {
-        &self.bytes[0..self.filled]
-    }
-
-    // Adds a byte, if there is room for it.
-    pub fn keep(&mut self, byte: u8)
-        ensures { written self.new ≡ kept (written self.old) byte }
-    {
-        if self.filled < CAPACITY {
-            self.push(byte);
-        }
-    }
-
     // The answer to a line that is no record.
     pub fn unknown() -> Text
-        ensures { written result ≡ unknown_text }
+        ensures { result ≡ unknown_text }
     {
-        let mut marks = Text::new();
-        marks.push(QUERY);
-        marks.push(QUERY);
-        marks
+        let mut text = Text::new();
+        text.push(b"??");
+        text
     }
 
     // The answer to a step or a power cycle.
     pub fn number(number: u8) -> Text
-        ensures { written result ≡ decimal number }
+        ensures { result ≡ decimal number }
     {
         let mut text = Text::new();
         text.push_number(number);
@@ -44,23 +26,47 @@ impl Text {
     }
 
     // The answer to a transaction, with the first 64 bytes of its area.
+    #[tactic(auto, using(std::proofs::lemmas::List::take_min))]
     pub fn transaction(outcome: u8, driven: u8, area: &[u8]) -> Text
-        ensures { written result ≡ transaction_text outcome driven (take 64 area.now) }
+        ensures { result ≡ transaction_text outcome driven (take 64 area.now) }
     {
-        let mut text = Text::with_counts(outcome, driven);
-        text.push_area(longest_shown(area));
+        let mut text = Text::counts(outcome, driven);
+        text.push_area(&area[..LONGEST_AREA.min(area.len())]);
         text
     }
-}
 
-// Its first 64 bytes.
-fn longest_shown(area: &[u8]) -> &[u8]
-    ensures bytes { result.now ≡ take 64 area.now }
-    ensures bound { length result.now ≤ 64 }
-{
-    if area.len() > LONGEST_AREA {
-        &area[0..LONGEST_AREA]
-    } else {
-        area
+    // Outcome and driven count.
+    fn counts(outcome: u8, driven: u8) -> Text
+        ensures text { result ≡ counts_text outcome driven }
+        ensures bound { length result ≤ 7 }
+    {
+        let mut text = Text::new();
+        text.push_number(outcome);
+        text.push(b" ");
+        text.push_number(driven);
+        text
+    }
+
+    // A number in decimal, without leading zeros.
+    fn push_number(&mut self, number: u8)
+        requires { length self.old + 3 ≤ 137 }
+        ensures text { self.new ≡ self.old ++ decimal number }
+        ensures bound { length self.new ≤ length self.old + 3 }
+    {
+        self.push(Buffer::new().format(number).as_bytes());
+    }
+
+    // The area after a blank, or nothing if it is empty.
+    fn push_area(&mut self, area: &[u8])
+        requires { (length self.old ≤ 7) × (length area.now ≤ 64) }
+        ensures { self.new ≡ self.old ++ area_text area.now }
+    {
+        if area.is_empty() {
+            return;
+        }
+        self.push(b" ");
+        for byte in area {
+            self.push(&byte_digits(*byte));
+        }
     }
 }

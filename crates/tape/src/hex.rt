@@ -1,56 +1,47 @@
-ghost use Rattle.std.specs.Prelude.{◌≡◌, ◌/◌, ◌<◌, ◌≤◌, min, ◌++◌, length, take, drop};
-ghost use Rattle.tape.specs.Hex.{is_hex, all_hex, hex_value, hex_digit, bytes_in};
+ghost use Rattle.std.specs.Prelude.{◌≡◌, ◌+◌, ◌*◌, ◌/◌, ◌<◌, min, ◌++◌, length, take, drop, if◌then◌else◌, Some, None};
+ghost use Rattle.tape.specs.Hex.{is_hex, all_hex, hex_value, hex_digit, hex_byte, bytes_in};
 
-fn is_hex(digit: u8) -> bool
-    ensures { result ≡ is_hex digit }
+// The value of an upper-case hexadecimal digit. The crate hex reads lower case too.
+fn value(digit: u8) -> Option<u8>
+    ensures { result ≡ (if is_hex digit then Some (hex_value digit) else None) }
 {
-    matches!(digit, b'0'..=b'9' | b'A'..=b'F')
+    match digit {
+        b'0'..=b'9' => Some(digit - b'0'),
+        b'A'..=b'F' => Some(digit - b'A' + 10),
+        _ => None,
+    }
+}
+
+// The byte of two digits, where 0 stands for one that is none.
+fn byte_of(high: u8, low: u8) -> u8
+    ensures { result ≡ 16 * hex_value high + hex_value low }
+{
+    16 * value(high).unwrap_or(0) + value(low).unwrap_or(0)
 }
 
 // Are all of them upper-case hexadecimal digits?
 pub(crate) fn are_hex(digits: &[u8]) -> bool
     ensures { result ≡ all_hex digits.now }
 {
-    for digit in digits {
-        if !is_hex(*digit) {
-            return false;
-        }
-    }
-    true
+    digits.iter().all(|digit| value(*digit).is_some())
 }
 
-// The value of a digit, or 0 where it is none.
-fn value(digit: u8) -> u8
-    ensures is { result ≡ hex_value digit }
-    ensures small { result < 16 }
-{
-    match digit {
-        b'0'..=b'9' => digit - b'0',
-        b'A'..=b'F' => digit - b'A' + 10,
-        _ => 0,
-    }
-}
-
-// The digit of a number below 16.
-pub(crate) fn digit(number: u8) -> u8
+// The digit of a number below 16. A `write!` of `{:X}` may fail, as far as its contract says.
+fn digit(number: u8) -> u8
     requires { number < 16 }
     ensures { result ≡ hex_digit number }
 {
-    if number < 10 {
-        b'0' + number
-    } else {
-        b'A' + (number - 10)
+    match number {
+        0..=9 => b'0' + number,
+        _ => b'A' + (number - 10),
     }
 }
 
-// Writes the first `count` bytes that the digits stand for.
-fn decode_first(count: usize, digits: &[u8], bytes: &mut [u8])
-    requires { (count ≤ length digits.now / 2) × (count ≤ length bytes.old) }
-    ensures { bytes.new ≡ take count (bytes_in digits.now) ++ drop count bytes.old }
+// The two digits of a byte.
+pub(crate) fn byte_digits(byte: u8) -> [u8; 2]
+    ensures { result ≡ hex_byte byte }
 {
-    for i in 0..count {
-        bytes[i] = 16 * value(digits[2 * i]) + value(digits[2 * i + 1]);
-    }
+    [digit(byte / 16), digit(byte % 16)]
 }
 
 // Writes the bytes that the digits stand for, as many as there is room for, and answers how many.
@@ -59,6 +50,9 @@ pub fn decode(digits: &[u8], bytes: &mut [u8]) -> usize
     ensures after { bytes.new ≡ take result (bytes_in digits.now) ++ drop result bytes.old }
 {
     let count = (digits.len() / 2).min(bytes.len());
-    decode_first(count, digits, bytes);
+    // By index, since no clause says what writes through a zip of `iter_mut` leave.
+    for (i, byte) in bytes[..count].iter_mut().enumerate() {
+        *byte = byte_of(digits[2 * i], digits[2 * i + 1]);
+    }
     count
 }

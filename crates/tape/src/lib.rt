@@ -1,8 +1,7 @@
 #![tactic(auto)]
 
-pub mod answers;
+mod answers;
 pub mod hex;
 pub mod parse;
 pub mod record;
 pub mod text;
-mod write;

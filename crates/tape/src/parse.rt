@@ -1,55 +1,75 @@
-ghost use Rattle.std.specs.Prelude.{◌≡◌, ◌≤◌, true, length, drop, if◌then◌else◌, Some, None};
+ghost use Rattle.std.specs.Prelude.{◌≡◌, ◌&&◌, ◌==◌, if◌then◌else◌, nat_le, Some, None};
+ghost use Rattle.std.specs.Option.{option_map};
 ghost use Rattle.tape.specs.Hex.{is_digit};
-ghost use Rattle.tape.specs.Lines.{is_mark, is_level, is_head, area_length, are_bytes, is_transaction, transaction_in, request_in};
-ghost use Rattle.tape.specs.Views.{asked, asked_if_any, Fits, FitsIfAny};
+ghost use Rattle.tape.specs.Lines.{is_level, number_of, are_bytes, is_transaction, transaction_in, request_in};
+ghost use Rattle.tape.specs.Views.{asked, asked_of};
 
 use crate::hex::are_hex;
-use crate::record::{LONGEST_AREA, MOST_SENT, Record};
+use crate::record::{LONGEST_AREA, MOST_SENT, Record, Transaction};
 
-// The bytes before the sent ones: the mark, the level and the length, with a blank after each.
-const HEAD: usize = 8;
-
-fn is_mark(first: u8, second: u8, line: &[u8]) -> bool
-    ensures { result ≡ is_mark first second line.now }
+// The record that the line is, or none.
+pub fn parse(line: &[u8]) -> Option<Record<'_>>
+    ensures { option_map asked result ≡ request_in line.now }
 {
-    line.len() == 2 && line[0] == first && line[1] == second
+    if line == b"ST".as_slice() {
+        return Some(Record::Step);
+    }
+    if line == b"PW".as_slice() {
+        return Some(Record::Power);
+    }
+    transaction_in(line).map(Record::Transaction)
 }
 
-fn is_level(byte: u8) -> bool
-    ensures { result ≡ is_level byte }
+// The transaction that the line is, or none.
+fn transaction_in(line: &[u8]) -> Option<Transaction<'_>>
+    ensures { option_map asked_of result ≡ (if is_transaction line.now then Some (transaction_in line.now) else None) }
 {
-    byte == b'0' || byte == b'1'
+    let [
+        b'T',
+        b'X',
+        b' ',
+        level,
+        b' ',
+        tens,
+        units,
+        b' ',
+        digits @ ..,
+    ] = line
+    else {
+        return None;
+    };
+    let low = is_low(*level)?;
+    let area_length = area_length(*tens, *units)?;
+    if !are_bytes(digits) {
+        return None;
+    }
+    Some(Transaction {
+        low,
+        area_length,
+        digits,
+    })
 }
 
-fn is_digit(byte: u8) -> bool
-    ensures { result ≡ is_digit byte }
+// Is this level of /WP low? None where it is no level.
+fn is_low(level: u8) -> Option<bool>
+    ensures { result ≡ (if is_level level then Some (level == 48) else None) }
 {
-    b'0' <= byte && byte <= b'9'
+    match level {
+        b'0' => Some(true),
+        b'1' => Some(false),
+        _ => None,
+    }
 }
 
-// Does the line begin as a transaction?
-fn is_head(line: &[u8]) -> bool
-    requires { 8 ≤ length line.now }
-    ensures { result ≡ is_head line.now }
+// The length of the area in two digits, or none where it is not of digits or too long. The library's `parse` would take a sign.
+fn area_length(tens: u8, units: u8) -> Option<usize>
+    ensures { result ≡ (if is_digit tens && (is_digit units && nat_le (number_of tens units) 64) then Some (number_of tens units) else None) }
 {
-    line[0] == b'T'
-        && line[1] == b'X'
-        && line[2] == b' '
-        && is_level(line[3])
-        && line[4] == b' '
-        && is_digit(line[5])
-        && is_digit(line[6])
-        && line[7] == b' '
-}
-
-// The length of the area: two digits.
-fn area_length(line: &[u8]) -> usize
-    requires { (8 ≤ length line.now) × (is_head line.now ≡ true) }
-    ensures { result ≡ area_length line.now }
-{
-    let tens = line[5] - b'0';
-    let units = line[6] - b'0';
-    10 * usize::from(tens) + usize::from(units)
+    if !tens.is_ascii_digit() || !units.is_ascii_digit() {
+        return None;
+    }
+    let number = 10 * usize::from(tens - b'0') + usize::from(units - b'0');
+    (number <= LONGEST_AREA).then_some(number)
 }
 
 // Are these at most 64 bytes, two digits for each?
@@ -57,46 +77,4 @@ fn are_bytes(digits: &[u8]) -> bool
     ensures { result ≡ are_bytes digits.now }
 {
     digits.len() <= 2 * MOST_SENT && digits.len() % 2 == 0 && are_hex(digits)
-}
-
-// The digits of the sent bytes.
-fn sent_digits(line: &[u8]) -> &[u8]
-    requires { 8 ≤ length line.now }
-    ensures { result.now ≡ drop 8 line.now }
-{
-    &line[HEAD..]
-}
-
-// The transaction that the line is, or none.
-fn transaction_in(line: &[u8]) -> Option<Record<'_>>
-    ensures asked { asked_if_any result ≡ (if is_transaction line.now then Some (transaction_in line.now) else None) }
-    ensures fits { FitsIfAny result }
-{
-    if line.len() < HEAD || !is_head(line) {
-        return None;
-    }
-    let area_length = area_length(line);
-    let digits = sent_digits(line);
-    if area_length > LONGEST_AREA || !are_bytes(digits) {
-        return None;
-    }
-    Some(Record::Transaction {
-        low: line[3] == b'0',
-        area_length,
-        digits,
-    })
-}
-
-// The record that the line is, or none.
-pub fn parse(line: &[u8]) -> Option<Record<'_>>
-    ensures asked { asked_if_any result ≡ request_in line.now }
-    ensures fits { FitsIfAny result }
-{
-    if is_mark(b'S', b'T', line) {
-        return Some(Record::Step);
-    }
-    if is_mark(b'P', b'W', line) {
-        return Some(Record::Power);
-    }
-    transaction_in(line)
 }

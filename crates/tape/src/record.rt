@@ -1,16 +1,25 @@
-// The most bytes that a transaction sends, and that its area has.
+ghost use Rattle.std.specs.Prelude.{◌≤◌, length};
+
+// The most bytes that a transaction sends.
 pub const MOST_SENT: usize = 64;
 
+// The most bytes that its area has.
 pub const LONGEST_AREA: usize = 64;
 
-// What a line asks for. The sent bytes of a transaction are given by their digits, which stand in the line.
+// What a line asks for.
 #[derive(Clone, Copy)]
 pub enum Record<'a> {
-    Transaction {
-        low: bool,
-        area_length: usize,
-        digits: &'a [u8],
-    },
+    Transaction(Transaction<'a>),
     Step,
     Power,
+}
+
+// A transaction, with /WP low or high. The sent bytes are given by their digits, which stand in the line.
+#[derive(Clone, Copy)]
+pub struct Transaction<'a> {
+    pub low: bool,
+    pub area_length: usize,
+    pub digits: &'a [u8],
+    ghost area_fits: { area_length ≤ 64 },
+    ghost sent_fit: { length digits.now ≤ 128 },
 }

@@ -6,19 +6,14 @@ use tape::text::Text;
 
 // Does the line ask for just this transaction?
 fn asks_for(wanted: &Transaction) -> bool {
-    let Some(
-        Record::Transaction {
-            low,
-            area_length,
-            digits,
-        },
-    ) = parse(wanted.line)
-    else {
+    let Some(Record::Transaction(asked)) = parse(wanted.line) else {
         return false;
     };
     let mut bytes = [0; 64];
-    let count = decode(digits, &mut bytes);
-    low == wanted.low && area_length == wanted.area_length && &bytes[0..count] == wanted.sent
+    let count = decode(asked.digits, &mut bytes);
+    asked.low == wanted.low
+        && asked.area_length == wanted.area_length
+        && &bytes[..count] == wanted.sent
 }
 
 #[test]
