@@ -1,6 +1,6 @@
 -- What a fault tells, by its cause: number, place, code sent last and column.
-use Rattle.std.specs.Prelude.{ℕ}
-use Rattle.rules.specs.Outcomes.{refusal_number, refusal_place}
+use Rattle.std.specs.Prelude.{ℕ, List, codes}
+use Rattle.rules.specs.Outcomes.{refusal_number, refusal_place, part_word}
 use Rattle.faults.specs.declared.fault.Cause.{Cause}
 use Rattle.faults.specs.declared.fault.Cause.TheVariants.{Refused, WrongLength, Worn, Differs}
 use Rattle.faults.specs.declared.fault.FaultPlace.{FaultPlace}
@@ -30,3 +30,8 @@ fault_column (Refused refusal code) = 0
 fault_column WrongLength = 0
 fault_column Worn = 0
 fault_column (Differs column) = column
+
+-- the word that a report has for a place
+abbrev pub place_word : FaultPlace → List ℕ
+place_word (Part part) = part_word part
+place_word Job = codes "job"

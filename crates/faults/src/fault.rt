@@ -1,10 +1,11 @@
-ghost use Rattle.std.specs.Prelude.{◌≡◌};
-ghost use Rattle.faults.specs.Faults.{fault_number, fault_place, fault_code, fault_column};
+ghost use Rattle.std.specs.Prelude.{◌≡◌, Some};
+ghost use Rattle.faults.specs.Faults.{fault_number, fault_place, fault_code, fault_column, place_word};
 
 use rules::refusal::{Refusal, RefusalPlace};
+use std::fmt;
 
 // Why a deed of a job stopped.
-#[derive(Clone, Copy)]
+#[derive(Clone, Copy, PartialEq, Eq, Debug)]
 pub enum Cause {
     // the card refused the transaction with this code
     Refused { refusal: Refusal, code: u8 },
@@ -17,7 +18,7 @@ pub enum Cause {
 }
 
 // Where a fault arose.
-#[derive(Clone, Copy)]
+#[derive(Clone, Copy, PartialEq, Eq, Debug)]
 pub enum FaultPlace {
     // in this part of the card
     Part(RefusalPlace),
@@ -26,7 +27,7 @@ pub enum FaultPlace {
 }
 
 // The fault that a deed tells, with the row given to write or check, else 0.
-#[derive(Clone, Copy)]
+#[derive(Clone, Copy, PartialEq, Eq, Debug)]
 pub struct Fault {
     pub cause: Cause,
     pub row: u16,
@@ -74,5 +75,25 @@ impl Fault {
             Cause::Differs { column } => column,
             Cause::Refused { .. } | Cause::WrongLength | Cause::Worn => 0,
         }
+    }
+}
+
+impl FaultPlace {
+    // The word for it.
+    pub fn as_str(self) -> &'static str
+        ensures { result.now ≡ place_word self }
+    {
+        match self {
+            FaultPlace::Part(part) => part.as_str(),
+            FaultPlace::Job => "job",
+        }
+    }
+}
+
+impl fmt::Display for FaultPlace {
+    ghost output = { λ place. Some (place_word place) };
+
+    fn fmt<W: fmt::Write>(&self, f: &mut fmt::Formatter<W>) -> fmt::Result {
+        f.write_str(self.as_str())
     }
 }

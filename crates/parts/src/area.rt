@@ -2,15 +2,13 @@ ghost use Rattle.std.specs.Prelude.{◌≡◌, min, [], length, drop, replicate}
 ghost use Rattle.rules.specs.Calls.{area_of};
 ghost use Rattle.parts.specs.Values.{identity};
 
-use crate::bytes::fill;
-
 // Copies `count` bytes to the front of the area, as many as it takes, and sets the rest to FFh.
 fn show(area: &mut [u8], bytes: &[u8], count: usize)
     requires { count ≡ min (length area.old) (length bytes.now) }
     ensures { area.new ≡ area_of (length area.old) bytes.now }
 {
     area[..count].copy_from_slice(&bytes[..count]);
-    fill(&mut area[count..], 0xff);
+    area[count..].fill(0xff);
 }
 
 // Drives the bytes, as many as the area takes, and tells how many those are.
@@ -27,11 +25,7 @@ pub fn drive(area: &mut [u8], bytes: &[u8]) -> usize
 fn from_column(bytes: &[u8], column: usize) -> &[u8]
     ensures { result.now ≡ drop column bytes.now }
 {
-    if column < bytes.len() {
-        &bytes[column..]
-    } else {
-        &[]
-    }
+    bytes.get(column..).unwrap_or(&[])
 }
 
 // Drives the bytes from the column on.
@@ -58,19 +52,11 @@ pub fn identify(area: &mut [u8]) -> usize
     drive(area, &[0xef, 0xba, 0x21])
 }
 
-// Sets the whole area to the byte: all that is driven of it.
-fn cover(area: &mut [u8], byte: u8)
-    ensures count { length (replicate (length area.old) byte) ≡ length area.old }
-    ensures after { area.new ≡ area_of (length area.old) (replicate (length area.old) byte) }
-{
-    fill(area, byte);
-}
-
 // Drives the byte as often as the area takes it.
 pub fn flood(area: &mut [u8], byte: u8) -> usize
     ensures count { result ≡ min (length area.old) (length (replicate (length area.old) byte)) }
     ensures after { area.new ≡ area_of (length area.old) (replicate (length area.old) byte) }
 {
-    cover(area, byte);
+    area.fill(byte);
     area.len()
 }

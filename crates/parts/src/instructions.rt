@@ -8,8 +8,8 @@ use frames::instruction::{Instruction, Simple};
 pub fn taken_while_busy(instruction: Instruction<'_>) -> bool
     ensures { result ≡ taken_while_busy (values instruction.entry) }
 {
-    match instruction {
-        Instruction::Plain(Simple::Identify) | Instruction::ReadRegister { .. } => true,
-        _ => false,
-    }
+    matches!(
+        instruction,
+        Instruction::Plain(Simple::Identify) | Instruction::ReadRegister { .. }
+    )
 }

@@ -1,13 +1,13 @@
 -- The card agrees with the book, and what a call that leads on keeps.
-use Rattle.std.proofs.Common.{◌≡◌, ℕ, ◌+◌, ◌<◌, ◌≤◌, true, false, length, get_or, Some, refl, ap, arith}
+use Rattle.std.proofs.Common.{◌≡◌, ℕ, ◌+◌, ◌<◌, ◌≤◌, true, false, length, get_or, Some, None, Option, refl, ap, arith}
 use Rattle.arrays.specs.Store.{Store}
 use Rattle.links.specs.declared.entry.Entry.TheVariants.{Unused}
 use Rattle.links.specs.Links.{capacity, is_used, partner, apart, may_swap}
 use Rattle.links.proofs.Inside.{inside}
 use Rattle.rules.specs.declared.operation.Place.TheVariants.{Main, Otp}
+use Rattle.rules.specs.declared.operation.Operation.{Operation}
 use Rattle.rules.specs.declared.operation.Operation.TheVariants.{Load, Swap, Program, Erase, Lock}
 use Rattle.rules.specs.declared.operation.Pending.{Pending}
-use Rattle.rules.specs.declared.operation.Pending.TheVariants.{Idle, Doing}
 use Rattle.rules.specs.Registers.{power_lock}
 use Rattle.rules.specs.Chip.{Lasting, Passing, Chip, sealed}
 use Rattle.rules.specs.Book.{Ledger, Book, Wait, no_wait, awaiting, swap_of, erase_of, lock_of, named}
@@ -35,14 +35,17 @@ pub record Erasable (l : Lasting) (sr1 : ℕ) (g : Ledger) (x left : ℕ) (w : W
   pub open_erase : sealed l sr1 x ≡ false
 
 -- the pending operation with what it needed, and what the book awaits
-abbrev pub Awaits : Lasting → ℕ → Ledger → Pending → Wait → Type 0
-Awaits l sr1 g Idle w = w ≡ no_wait
-Awaits l sr1 g (Doing (Load place) left) w = w ≡ no_wait
-Awaits l sr1 g (Doing (Swap a b) left) w = (w ≡ awaiting (swap_of a b) left) × Swappable l sr1 a b
-Awaits l sr1 g (Doing (Program (Main x page)) left) w = (w ≡ no_wait) × (sealed l sr1 x ≡ false)
-Awaits l sr1 g (Doing (Program (Otp page)) left) w = w ≡ no_wait
-Awaits l sr1 g (Doing (Erase x) left) w = Erasable l sr1 g x left w
-Awaits l sr1 g (Doing (Lock otp lock) left) w = w ≡ awaiting (lock_of otp lock) left
+abbrev pub AwaitsEnd : Lasting → ℕ → Ledger → Operation → ℕ → Wait → Type 0
+AwaitsEnd l sr1 g (Load place) left w = w ≡ no_wait
+AwaitsEnd l sr1 g (Swap a b) left w = (w ≡ awaiting (swap_of a b) left) × Swappable l sr1 a b
+AwaitsEnd l sr1 g (Program (Main x page)) left w = (w ≡ no_wait) × (sealed l sr1 x ≡ false)
+AwaitsEnd l sr1 g (Program (Otp page)) left w = w ≡ no_wait
+AwaitsEnd l sr1 g (Erase x) left w = Erasable l sr1 g x left w
+AwaitsEnd l sr1 g (Lock locks) left w = w ≡ awaiting (lock_of locks.otp locks.sr1) left
+
+abbrev pub Awaits : Lasting → ℕ → Ledger → Option Pending → Wait → Type 0
+Awaits l sr1 g None w = w ≡ no_wait
+Awaits l sr1 g (Some p) w = AwaitsEnd l sr1 g p.operation p.left w
 
 -- ---- the card and the book at one moment
 

@@ -4,3 +4,4 @@ pub mod Agree
 pub mod Taking
 pub mod Stepping
 pub mod Runs
+pub mod Answered

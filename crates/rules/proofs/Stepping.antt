@@ -1,5 +1,5 @@
 -- A step leads on: only the last one of an operation acts, under what was tested when it was taken.
-use Rattle.std.proofs.Common.{◌≡◌, ℕ, ◌+◌, ◌-◌, ◌<◌, Bool, true, false, cond, ◌&&◌, ◌||◌, eqb, ltb, length, get_or, sym, refl, ap, ◌∙◌, subst, ⊎_elim, arith, length-append}
+use Rattle.std.proofs.Common.{◌≡◌, ℕ, ◌+◌, ◌-◌, ◌<◌, true, false, cond, ◌&&◌, ◌||◌, eqb, ltb, length, get_or, Some, None, Option, sym, refl, ap, ◌∙◌, subst, ⊎_elim, arith, length-append}
 use Rattle.std.proofs.lemmas.Bool.{both_ways, cases_Bool, or_left, cond-true, cond-false}
 use Rattle.arrays.specs.Store.{Store, after_program, after_erase}
 use Rattle.links.specs.declared.entry.Entry.TheVariants.{Unused}
@@ -11,10 +11,10 @@ use Rattle.links.proofs.Inside.{inside, swapped_inside}
 use Rattle.rules.specs.declared.operation.Place.{Place}
 use Rattle.rules.specs.declared.operation.Place.TheVariants.{Main, Otp}
 use Rattle.rules.specs.declared.operation.Operation.{Operation}
+use Rattle.rules.specs.declared.locks.Locks.{Locks}
 use Rattle.rules.specs.declared.operation.Operation.TheVariants.{Load, Swap, Program, Erase, Lock}
 use Rattle.rules.specs.declared.operation.Pending.{Pending}
-use Rattle.rules.specs.declared.operation.Pending.TheVariants.{Idle, Doing}
-use Rattle.rules.specs.Chip.{Lasting, Passing, Chip, reached, sealed, with_pending}
+use Rattle.rules.specs.Chip.{Lasting, Passing, Chip, doing, reached, sealed, with_pending}
 use Rattle.rules.specs.Operations.{finished}
 use Rattle.rules.specs.Calls.{step_of}
 use Rattle.rules.specs.Book.{Ledger, Book, Due, Wait, no_wait, awaiting, swap_of, erase_of, lock_of, named, settled, ticked}
@@ -149,10 +149,10 @@ module _ (main : Store) (l : Lasting) (s : Passing) (g : Ledger) (h : ℕ) (k : 
         used_kept = λ j e. subst (λ t. is_used (get_or t j Unused) ≡ true) (sym does) (swapped_stays x y l.links j e);
       }
 
-  lock_acts : (o t : Bool) → Acts (Lock o t) (settled (lock_of o t) g)
-  lock_acts o t = record {
+  lock_acts : (bits : Locks) → Acts (Lock bits) (settled (lock_of bits.otp bits.sr1) g)
+  lock_acts bits = record {
     agrees = record {
-      kept = record { blocks = k.blocks; pages = k.pages; g_blocks = k.g_blocks; g_pages = k.g_pages; g_lives = k.g_lives; otp_l = ap (λ z. z || o) k.otp_l; sr1_l = ap (λ z. z || t) k.sr1_l; links = k.links; most = k.most; once = k.once; within = k.within; lives = k.lives };
+      kept = record { blocks = k.blocks; pages = k.pages; g_blocks = k.g_blocks; g_pages = k.g_pages; g_lives = k.g_lives; otp_l = ap (λ z. z || bits.otp) k.otp_l; sr1_l = ap (λ z. z || bits.sr1) k.sr1_l; links = k.links; most = k.most; once = k.once; within = k.within; lives = k.lives };
       sr1 = same;
       awaits = refl;
     };
@@ -209,11 +209,11 @@ module _ (main : Store) (l : Lasting) (s : Passing) (g : Ledger) (h : ℕ) (k : 
 
   -- ---- a step at which q was pending
 
-  abbrev Steps : Pending → Type 0
+  abbrev Steps : Option Pending → Type 0
   Steps q = Onward main before one_step (record { chip = step_of q c; book = ticked (book_of g h w) })
 
   -- the card and the book that it comes to
-  comes_to : (q : Pending) (d : Chip) (b : Book) → step_of q c ≡ d → ticked (book_of g h w) ≡ b → Onward main before one_step (record { chip = d; book = b }) → Steps q
+  comes_to : (q : Option Pending) (d : Chip) (b : Book) → step_of q c ≡ d → ticked (book_of g h w) ≡ b → Onward main before one_step (record { chip = d; book = b }) → Steps q
   comes_to q d b e f on =
       subst (λ z. Onward main before one_step (record { chip = z; book = ticked (book_of g h w) })) (sym e)
       (subst (λ z. Onward main before one_step (record { chip = d; book = z })) (sym f) on)
@@ -228,13 +228,13 @@ module _ (main : Store) (l : Lasting) (s : Passing) (g : Ledger) (h : ℕ) (k : 
   book_counts : (due : Due) (left : ℕ) → ltb 1 left ≡ true → w ≡ awaiting due left → ticked (book_of g h w) ≡ book_of g h (awaiting due (left - 1))
   book_counts due left t e = ap (λ v. ticked (book_of g h v)) e ∙ cond-true (ltb 1 left) _ _ t
 
-  acts : (o : Operation) (left : ℕ) → ltb 1 left ≡ false → Awaits l s.sr1 g (Doing o left) w → Steps (Doing o left)
+  acts : (o : Operation) (left : ℕ) → ltb 1 left ≡ false → Awaits l s.sr1 g (doing o left) w → Steps (doing o left)
   acts o left t a = go o a
     where
-      last : (o : Operation) (g' : Ledger) → ticked (book_of g h w) ≡ book_of g' h no_wait → Acts o g' → Steps (Doing o left)
-      last o g' e on = comes_to (Doing o left) (finished o c) (book_of g' h no_wait) (cond-false (ltb 1 left) _ _ t) e on
+      last : (o : Operation) (g' : Ledger) → ticked (book_of g h w) ≡ book_of g' h no_wait → Acts o g' → Steps (doing o left)
+      last o g' e on = comes_to (doing o left) (finished o c) (book_of g' h no_wait) (cond-false (ltb 1 left) _ _ t) e on
 
-      go : (o : Operation) → Awaits l s.sr1 g (Doing o left) w → Steps (Doing o left)
+      go : (o : Operation) → Awaits l s.sr1 g (doing o left) w → Steps (doing o left)
       go (Load place) e = last (Load place) g (book_rests e) (load_acts place)
       go (Swap x y) e = last (Swap x y) (settled (swap_of x y) g) (book_settles (swap_of x y) left t e.0) (swap_acts x y e.1)
       go (Program (Main x page)) e = last (Program (Main x page)) g (book_rests e.0) (program_acts x page e.1)
@@ -243,26 +243,26 @@ module _ (main : Store) (l : Lasting) (s : Passing) (g : Ledger) (h : ℕ) (k : 
           last (Erase x) (settled (erase_of (reached l x)) g)
           (book_settles (erase_of (reached l x)) left t (e.waits ∙ ap (λ z. awaiting (erase_of z) left) (sym (reached_named main l g k x))))
           (erase_acts x e.below e.open_erase)
-      go (Lock p q) e = last (Lock p q) (settled (lock_of p q) g) (book_settles (lock_of p q) left t e) (lock_acts p q)
+      go (Lock bits) e = last (Lock bits) (settled (lock_of bits.otp bits.sr1) g) (book_settles (lock_of bits.otp bits.sr1) left t e) (lock_acts bits)
 
   -- a step that is not the last one
-  lowered : (o : Operation) (left : ℕ) → ltb 1 left ≡ true → Awaits l s.sr1 g (Doing o left) w → (v : Wait) × (ticked (book_of g h w) ≡ book_of g h v) × Awaits l s.sr1 g (Doing o (left - 1)) v
+  lowered : (o : Operation) (left : ℕ) → ltb 1 left ≡ true → Awaits l s.sr1 g (doing o left) w → (v : Wait) × (ticked (book_of g h w) ≡ book_of g h v) × Awaits l s.sr1 g (doing o (left - 1)) v
   lowered (Load place) left t e = (no_wait, book_rests e, refl)
   lowered (Swap x y) left t e = (awaiting (swap_of x y) (left - 1), book_counts (swap_of x y) left t e.0, (refl, e.1))
   lowered (Program (Main x page)) left t e = (no_wait, book_rests e.0, (refl, e.1))
   lowered (Program (Otp page)) left t e = (no_wait, book_rests e, refl)
   lowered (Erase x) left t e =
       (awaiting (erase_of (named g.swaps x)) (left - 1), book_counts (erase_of (named g.swaps x)) left t e.waits, record { waits = refl; below = e.below; open_erase = e.open_erase })
-  lowered (Lock p q) left t e = (awaiting (lock_of p q) (left - 1), book_counts (lock_of p q) left t e, refl)
+  lowered (Lock bits) left t e = (awaiting (lock_of bits.otp bits.sr1) (left - 1), book_counts (lock_of bits.otp bits.sr1) left t e, refl)
 
-  counts : (o : Operation) (left : ℕ) → ltb 1 left ≡ true → Awaits l s.sr1 g (Doing o left) w → Steps (Doing o left)
+  counts : (o : Operation) (left : ℕ) → ltb 1 left ≡ true → Awaits l s.sr1 g (doing o left) w → Steps (doing o left)
   counts o left t e =
       let (v, f, a) = lowered o left t e in
-      comes_to (Doing o left) (chip_of l (with_pending (Doing o (left - 1)) s)) (book_of g h v) (cond-true (ltb 1 left) _ _ t) f
+      comes_to (doing o left) (chip_of l (with_pending (doing o (left - 1)) s)) (book_of g h v) (cond-true (ltb 1 left) _ _ t) f
       (still main l s _ _ _ one_step refl (record { kept = k; sr1 = same; awaits = a }) (λ _ _. refl) (λ _. refl))
 
-  pub steps_on : Agrees main before → (q : Pending) → Awaits l s.sr1 g q w → Steps q
-  steps_on a Idle e =
+  pub steps_on : Agrees main before → (q : Option Pending) → Awaits l s.sr1 g q w → Steps q
+  steps_on a None e =
       let f : ticked (book_of g h w) ≡ book_of g h w = ap (λ v. ticked (book_of g h v)) e ∙ ap (book_of g h) (sym e) in
-      comes_to Idle c (book_of g h w) refl f (still main l s s _ _ one_step refl a (λ _ _. refl) (λ _. refl))
-  steps_on a (Doing o left) e = ⊎_elim (λ t. counts o left t e) (λ t. acts o left t e) (cases_Bool (ltb 1 left))
+      comes_to None c (book_of g h w) refl f (still main l s s _ _ one_step refl a (λ _ _. refl) (λ _. refl))
+  steps_on a (Some p) e = ⊎_elim (λ t. counts p.operation p.left t e) (λ t. acts p.operation p.left t e) (cases_Bool (ltb 1 p.left))

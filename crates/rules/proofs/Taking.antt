@@ -1,5 +1,5 @@
 -- A transaction leads on: it leaves what lasts, and starts only what no refusal shut out.
-use Rattle.std.proofs.Common.{◌≡◌, ℕ, zero, suc, ◌<◌, Bool, true, false, cond, not, ◌&&◌, ◌||◌, eqb, ◌⊎◌, List, [], ◌∷◌, sym, refl, ap, ◌∙◌, subst, inl, inr, mod-lt, div-lt_iff_lt-mul, mul-pos, arith, pow_pos}
+use Rattle.std.proofs.Common.{◌≡◌, ℕ, zero, suc, ◌<◌, Bool, true, false, cond, not, ◌&&◌, ◌||◌, eqb, ◌⊎◌, List, [], ◌∷◌, Some, None, Ok, Err, Option, sym, refl, ap, ◌∙◌, subst, inl, inr, mod-lt, div-lt_iff_lt-mul, mul-pos, arith, pow_pos}
 use Rattle.std.proofs.lemmas.Bool.{both_ways, or_parts, or_from, and_parts, not-false, not-true, not_from_false, eqb-false}
 use Rattle.arrays.specs.Store.{Store, Shape, Power, most_blocks, most_pages}
 use Rattle.links.specs.Links.{partner, full, outside, taken as in_links}
@@ -9,12 +9,10 @@ use Rattle.rules.specs.declared.flags.Flags.{Flags}
 use Rattle.rules.specs.declared.operation.Place.TheVariants.{Main, Otp}
 use Rattle.rules.specs.declared.operation.Operation.TheVariants.{Program, Erase}
 use Rattle.rules.specs.declared.operation.Pending.{Pending}
-use Rattle.rules.specs.declared.operation.Pending.TheVariants.{Idle, Doing}
-use Rattle.rules.specs.declared.refusal.Outcome.{Outcome}
-use Rattle.rules.specs.declared.refusal.Outcome.TheVariants.{Taken, Refused}
+use Rattle.rules.specs.Outcomes.{Outcome}
 use Rattle.rules.specs.Registers.{power_lock, is_sr1, is_sr2, new_otp_l, new_sr1_l, with_sr2}
 use Rattle.rules.specs.Rows.{row_address}
-use Rattle.rules.specs.Chip.{Lasting, Passing, Chip, busy, fit, sealed, with_sr1, with_flags, with_buffer, with_pending}
+use Rattle.rules.specs.Chip.{Lasting, Passing, Chip, doing, busy, fit, sealed, with_sr1, with_flags, with_buffer, with_pending}
 use Rattle.rules.specs.Refusals.{Rung, ◌when◌, first, refusals, sr1_shut, sealed_row, partner_sealed, is_fixed_row}
 use Rattle.rules.specs.Effects.{effect, lock_begun, sr2_written}
 use Rattle.rules.specs.Calls.{chip_after}
@@ -35,10 +33,10 @@ abbrev Clear : List Rung → Type 0
 Clear rs = (k : ℕ) → condition k rs ≡ false
 
 abbrev is_taken : Outcome → Bool
-is_taken Taken = true
-is_taken (Refused r) = false
+is_taken (Ok u) = true
+is_taken (Err r) = false
 
-clear : (rs : List Rung) → first rs ≡ Taken → Clear rs
+clear : (rs : List Rung) → first rs ≡ Ok tt → Clear rs
 clear [] h k = refl
 clear ((r when true) ∷ rs) h k = absurd (both_ways false refl (ap is_taken h))
 clear ((r when false) ∷ rs) h zero = refl
@@ -47,13 +45,13 @@ clear ((r when false) ∷ rs) h (suc (suc k)) = clear rs h (suc k)
 
 -- ---- an idle card
 
-idle_none : (l : Lasting) (r : ℕ) (g : Ledger) (q : Pending) (w : Wait) → (busy q && true) ≡ false → Awaits l r g q w → w ≡ no_wait
-idle_none l r g Idle w h a = a
-idle_none l r g (Doing o n) w h a = absurd (both_ways true h refl)
+idle_none : (l : Lasting) (r : ℕ) (g : Ledger) (q : Option Pending) (w : Wait) → (busy q && true) ≡ false → Awaits l r g q w → w ≡ no_wait
+idle_none l r g None w h a = a
+idle_none l r g (Some p) w h a = absurd (both_ways true h refl)
 
-idle_any : (l : Lasting) (r t : ℕ) (g : Ledger) (q : Pending) (w : Wait) → (busy q && true) ≡ false → Awaits l r g q w → Awaits l t g q w
-idle_any l r t g Idle w h a = a
-idle_any l r t g (Doing o n) w h a = absurd (both_ways true h refl)
+idle_any : (l : Lasting) (r t : ℕ) (g : Ledger) (q : Option Pending) (w : Wait) → (busy q && true) ≡ false → Awaits l r g q w → Awaits l t g q w
+idle_any l r t g None w h a = a
+idle_any l r t g (Some p) w h a = absurd (both_ways true h refl)
 
 -- ---- a row's block address is below N, on a fit card
 
@@ -84,11 +82,11 @@ module _ (main : Store) (shape : Shape main) (l : Lasting) (s : Passing) (b : Bo
   buffer_on xs = still main l s _ b b k refl (record { kept = a.kept; sr1 = a.sr1; awaits = a.awaits }) (λ _ _. refl) (λ _. refl)
 
   -- a new operation, and what the book then awaits
-  starts : (f : Flags) (q : Pending) (w : Wait) → Awaits l s.sr1 b.ledger q w → Leads (with_pending q (with_flags f s)) (with_wait b w)
+  starts : (f : Flags) (q : Option Pending) (w : Wait) → Awaits l s.sr1 b.ledger q w → Leads (with_pending q (with_flags f s)) (with_wait b w)
   starts f q w h = still main l s _ b _ k refl (record { kept = a.kept; sr1 = a.sr1; awaits = h }) (λ _ _. refl) (λ _. refl)
 
   -- an operation that the book does not await
-  starts_alone : (f : Flags) (q : Pending) → (busy s.pending && true) ≡ false → ((w : Wait) → w ≡ no_wait → Awaits l s.sr1 b.ledger q w) → Leads (with_pending q (with_flags f s)) b
+  starts_alone : (f : Flags) (q : Option Pending) → (busy s.pending && true) ≡ false → ((w : Wait) → w ≡ no_wait → Awaits l s.sr1 b.ledger q w) → Leads (with_pending q (with_flags f s)) b
   starts_alone f q h m = starts f q b.waits (m b.waits (idle_none l s.sr1 b.ledger s.pending b.waits h a.awaits))
 
   -- ---- register writes
@@ -101,14 +99,14 @@ module _ (main : Store) (shape : Shape main) (l : Lasting) (s : Passing) (b : Bo
       (record { kept = a.kept; sr1 = refl; awaits = idle_any l s.sr1 v b.ledger s.pending b.waits h a.awaits })
       (λ _ p. absurd (both_ways (power_lock s.sr1) power p)) (λ p. absurd (both_ways l.sr1_l parts.0 p))
 
-  lock_awaits : (o t : Bool) → Awaits l s.sr1 b.ledger (lock_begun o t s.pending) (lock_wait o t b.waits)
+  lock_awaits : (o t : Bool) → Awaits l s.sr1 b.ledger (lock_begun (record { otp = o; sr1 = t }) s.pending) (lock_wait o t b.waits)
   lock_awaits true t = refl
   lock_awaits false true = refl
   lock_awaits false false = a.awaits
 
   sr2_on : (v : ℕ) → Leads (sr2_written c v) (with_wait b (lock_wait (new_otp_l b.ledger.otp_l v) (new_sr1_l b.ledger.sr1_l v) b.waits))
   sr2_on v =
-      let q = lock_begun (new_otp_l l.otp_l v) (new_sr1_l l.sr1_l v) s.pending in
+      let q = lock_begun (record { otp = new_otp_l l.otp_l v; sr1 = new_sr1_l l.sr1_l v }) s.pending in
       starts (with_sr2 v s.flags) q _
       (subst (λ z. Awaits l s.sr1 b.ledger q (lock_wait (new_otp_l z v) (new_sr1_l b.ledger.sr1_l v) b.waits)) a.kept.otp_l
       (subst (λ z. Awaits l s.sr1 b.ledger q (lock_wait (new_otp_l l.otp_l v) (new_sr1_l z v) b.waits)) a.kept.sr1_l
@@ -124,7 +122,7 @@ module _ (main : Store) (shape : Shape main) (l : Lasting) (s : Passing) (b : Bo
   -- ---- rows
 
   program_awaits : (e fixed : Bool) (x page row : ℕ) (w : Wait) → cond e fixed (sealed l s.sr1 x) ≡ false → w ≡ no_wait
-      → Awaits l s.sr1 b.ledger (Doing (Program (cond e (Otp row) (Main x page))) 4) w
+      → Awaits l s.sr1 b.ledger (doing (Program (cond e (Otp row) (Main x page))) 4) w
   program_awaits true fixed x page row w o n = n
   program_awaits false fixed x page row w o n = (n, o)
 
@@ -136,7 +134,7 @@ module _ (main : Store) (shape : Shape main) (l : Lasting) (s : Passing) (b : Bo
       address_below l.main.blocks l.main.pages row n p
 
   erase_awaits : (row : ℕ) → fit l ≡ true → sealed_row c row ≡ false
-      → Awaits l s.sr1 b.ledger (Doing (Erase (row_address l.main.blocks l.main.pages row)) 16) (awaiting (erase_of (named b.ledger.swaps (row_address b.ledger.blocks b.ledger.pages row))) 16)
+      → Awaits l s.sr1 b.ledger (doing (Erase (row_address l.main.blocks l.main.pages row)) 16) (awaiting (erase_of (named b.ledger.swaps (row_address b.ledger.blocks b.ledger.pages row))) 16)
   erase_awaits row f o = record {
     waits =
         ap (λ z. awaiting (erase_of (named b.ledger.swaps (row_address z b.ledger.pages row))) 16) (a.kept.g_blocks ∙ sym a.kept.blocks)
@@ -173,9 +171,9 @@ module _ (main : Store) (shape : Shape main) (l : Lasting) (s : Passing) (b : Bo
   takes (load_buffer refill x xs) _ _ _ r = buffer_on _
   takes (read_buffer x) _ _ _ r = nothing_new
 
-  by_outcomes : (i : Told) (known right pin : Bool) (o : Outcome) → (o ≡ Taken → Clear (refusals c low i known right pin)) → Onward main (moment l s b) k (record { chip = chip_after c i o; book = noted_by b i o })
-  by_outcomes i known right pin Taken p = takes i known right pin (p refl)
-  by_outcomes i known right pin (Refused r) p = flags_on _
+  by_outcomes : (i : Told) (known right pin : Bool) (o : Outcome) → (o ≡ Ok tt → Clear (refusals c low i known right pin)) → Onward main (moment l s b) k (record { chip = chip_after c i o; book = noted_by b i o })
+  by_outcomes i known right pin (Ok tt) p = takes i known right pin (p refl)
+  by_outcomes i known right pin (Err r) p = flags_on _
 
   pub answers : (i : Told) (known right pin : Bool) → let o = first (refusals c low i known right pin) in Onward main (moment l s b) k (record { chip = chip_after c i o; book = noted_by b i o })
   answers i known right pin = by_outcomes i known right pin (first (refusals c low i known right pin)) (clear (refusals c low i known right pin))

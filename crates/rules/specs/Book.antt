@@ -1,12 +1,11 @@
 -- The book: it gets the calls, each transaction with its outcome, and nothing else.
-use Rattle.std.specs.Prelude.{ℕ, ◌+◌, ◌-◌, Bool, false, cond, ◌&&◌, ◌||◌, List, [], ◌∷◌, ◌++◌, ◌==◌, nat_lt}
+use Rattle.std.specs.Prelude.{ℕ, ◌+◌, ◌-◌, Bool, false, cond, ◌&&◌, ◌||◌, List, [], ◌∷◌, ◌++◌, Ok, Err, ◌==◌, nat_lt}
 use Rattle.arrays.specs.Store.{Store}
 use Rattle.links.specs.Links.{exchange}
 use Rattle.frames.specs.declared.instruction.RowOperation.{RowOperation}
 use Rattle.frames.specs.declared.instruction.RowOperation.TheVariants.{Program, Erase, Fetch}
 use Rattle.frames.specs.Frames.{Told, nothing, plain, read_register, write_register, swap, at_row, load_buffer, read_buffer, told}
-use Rattle.rules.specs.declared.refusal.Outcome.{Outcome}
-use Rattle.rules.specs.declared.refusal.Outcome.TheVariants.{Taken, Refused}
+use Rattle.rules.specs.Outcomes.{Outcome}
 use Rattle.rules.specs.Registers.{power_up_sr1, is_sr1, is_sr2, new_otp_l, new_sr1_l}
 use Rattle.rules.specs.Rows.{row_address}
 
@@ -98,8 +97,8 @@ noted_taken b (load_buffer refill column xs) = b
 noted_taken b (read_buffer column) = b
 
 abbrev pub noted_by : Book → Told → Outcome → Book
-noted_by b i Taken = noted_taken b i
-noted_by b i (Refused refusal) = b
+noted_by b i (Ok done) = noted_taken b i
+noted_by b i (Err refusal) = b
 
 abbrev pub noted : Book → List ℕ → Outcome → Book
 noted b sent outcome = noted_by b (told sent) outcome

@@ -1,12 +1,12 @@
 -- The state of a card: what lasts over a power cycle, and what a power cycle resets.
-use Rattle.std.specs.Prelude.{ℕ, Bool, true, false, not, ◌&&◌, List, replicate, ◌==◌}
+use Rattle.std.specs.Prelude.{ℕ, Bool, not, ◌&&◌, List, replicate, is_some, Some, Option, ◌==◌}
 use Rattle.arrays.specs.Store.{Store, page_size}
 use Rattle.links.specs.declared.entry.Entry.{Entry}
 use Rattle.links.specs.Links.{reach}
 use Rattle.linked.specs.Shown.{shown}
 use Rattle.rules.specs.declared.flags.Flags.{Flags}
+use Rattle.rules.specs.declared.operation.Operation.{Operation}
 use Rattle.rules.specs.declared.operation.Pending.{Pending}
-use Rattle.rules.specs.declared.operation.Pending.TheVariants.{Idle, Doing}
 use Rattle.rules.specs.Seal.{covers}
 
 pub record Lasting : Type 0 where
@@ -20,7 +20,7 @@ pub record Passing : Type 0 where
   pub sr1 : ℕ
   pub flags : Flags
   pub buffer : List ℕ
-  pub pending : Pending
+  pub pending : Option Pending
 
 pub record Chip : Type 0 where
   pub lasting : Lasting
@@ -28,9 +28,12 @@ pub record Chip : Type 0 where
 
 -- ---- what a state gives
 
-abbrev pub busy : Pending → Bool
-busy Idle = false
-busy (Doing operation left) = true
+-- an operation with so many steps left
+abbrev pub doing : Operation → ℕ → Option Pending
+doing operation left = Some (record { operation = operation; left = left })
+
+abbrev pub busy : Option Pending → Bool
+busy = is_some
 
 -- the main array is not empty, and the OTP array has 1 block of 16 pages
 abbrev pub fit : Lasting → Bool
@@ -73,5 +76,5 @@ with_flags f s = record { sr1 = s.sr1; flags = f; buffer = s.buffer; pending = s
 abbrev pub with_buffer : List ℕ → Passing → Passing
 with_buffer xs s = record { sr1 = s.sr1; flags = s.flags; buffer = xs; pending = s.pending }
 
-abbrev pub with_pending : Pending → Passing → Passing
+abbrev pub with_pending : Option Pending → Passing → Passing
 with_pending q s = record { sr1 = s.sr1; flags = s.flags; buffer = s.buffer; pending = q }

@@ -1,5 +1,5 @@
 -- What a taken instruction does at once and what it drives, and what refusal 11 does.
-use Rattle.std.specs.Prelude.{ℕ, ◌-◌, min, Bool, true, false, cond, ◌||◌, List, [], ◌∷◌, length, drop, replicate, ◌==◌, nat_lt}
+use Rattle.std.specs.Prelude.{ℕ, ◌-◌, min, true, false, cond, ◌||◌, List, [], ◌∷◌, length, drop, replicate, Option, ◌==◌, nat_lt}
 use Rattle.std.proofs.Math.Seq.{paste}
 use Rattle.links.specs.Links.{full, table_bytes}
 use Rattle.frames.specs.declared.instruction.Simple.{Simple}
@@ -8,6 +8,7 @@ use Rattle.frames.specs.declared.instruction.RowOperation.{RowOperation}
 use Rattle.frames.specs.declared.instruction.RowOperation.TheVariants.{Program, Erase, Fetch}
 use Rattle.frames.specs.Frames.{Told, nothing, plain, read_register, write_register, swap, at_row, load_buffer, read_buffer}
 use Rattle.rules.specs.declared.flags.Flags.{Flags}
+use Rattle.rules.specs.declared.locks.Locks.{Locks}
 use Rattle.rules.specs.declared.operation.Operation.TheVariants as operation
 use Rattle.rules.specs.declared.operation.Pending.{Pending}
 use Rattle.rules.specs.declared.refusal.Refusal.{Refusal}
@@ -28,13 +29,13 @@ simple_effect Identify f = f
 simple_effect ListLinks f = f
 
 -- new lock bits start a lock operation
-abbrev pub lock_begun : Bool → Bool → Pending → Pending
-lock_begun otp sr1 pending = cond (otp || sr1) (begun (operation.Lock otp sr1)) pending
+abbrev pub lock_begun : Locks → Option Pending → Option Pending
+lock_begun locks pending = cond (locks.otp || locks.sr1) (begun (operation.Lock locks)) pending
 
 abbrev pub sr2_written : Chip → ℕ → Passing
 sr2_written c v =
     let s = c.passing in
-    with_pending (lock_begun (new_otp_l c.lasting.otp_l v) (new_sr1_l c.lasting.sr1_l v) s.pending) (with_flags (with_sr2 v s.flags) s)
+    with_pending (lock_begun (record { otp = new_otp_l c.lasting.otp_l v; sr1 = new_sr1_l c.lasting.sr1_l v }) s.pending) (with_flags (with_sr2 v s.flags) s)
 
 -- writing SR-3 has no effect
 abbrev pub written : Chip → ℕ → ℕ → Passing
@@ -87,8 +88,11 @@ failed (load_buffer refill column xs) f = f
 failed (read_buffer column) f = f
 
 -- all other refusals alter nothing
+abbrev pub refused_flags : Refusal → Told → Flags → Flags
+refused_flags refusal i f = cond (refusal_number refusal == 11) (failed i f) f
+
 abbrev pub refusal_effect : Refusal → Told → Passing → Passing
-refusal_effect refusal i s = with_flags (cond (refusal_number refusal == 11) (failed i s.flags) s.flags) s
+refusal_effect refusal i s = with_flags (refused_flags refusal i s.flags) s
 
 -- ---- what is driven, before the area cuts it
 

@@ -1,11 +1,10 @@
 -- The fifteen refusals, from top to bottom: the first one whose condition holds gives the outcome.
-use Rattle.std.specs.Prelude.{ℕ, Bool, false, cond, not, ◌&&◌, ◌||◌, List, [], ◌∷◌, Some, None, Option, nat_lt}
+use Rattle.std.specs.Prelude.{ℕ, Bool, false, cond, not, ◌&&◌, ◌||◌, List, [], ◌∷◌, Some, None, Ok, Err, Option, nat_lt}
 use Rattle.links.specs.Links.{partner, full, outside, taken as in_links}
 use Rattle.frames.specs.Frames.{Told, told, listed, count_right, write_frame, quad_frame}
 use Rattle.rules.specs.declared.refusal.Refusal.{Refusal}
 use Rattle.rules.specs.declared.refusal.Refusal.TheVariants.{Unfit, UnlistedCode, WrongCount, Busy, PinProtected, UnknownRegister, RegisterProtected, LockForbidden, LatchClear, RowOutside, RowProtected, SwapOutside, SwapLinked, TableFull, SwapSealed}
-use Rattle.rules.specs.declared.refusal.Outcome.{Outcome}
-use Rattle.rules.specs.declared.refusal.Outcome.TheVariants.{Taken, Refused}
+use Rattle.rules.specs.Outcomes.{Outcome}
 use Rattle.rules.specs.Registers.{srp0, srp1, wp_e, power_lock, is_sr1, is_sr2, is_sr3, new_otp_l, new_sr1_l}
 use Rattle.rules.specs.Rows.{row_address}
 use Rattle.rules.specs.Chip.{Lasting, Chip, busy as is_busy, fit, sealed}
@@ -16,8 +15,8 @@ pub data Rung : Type 0 where
   ◌when◌ : Refusal → Bool → Rung
 
 abbrev pub first : List Rung → Outcome
-first [] = Taken
-first ((refusal when holds) ∷ rungs) = cond holds (Refused refusal) (first rungs)
+first [] = Ok tt
+first ((refusal when holds) ∷ rungs) = cond holds (Err refusal) (first rungs)
 
 -- 5: a quad code at any level of /WP, a writing one while it is low
 abbrev pub pin_code : Bool → List ℕ → Bool

@@ -1,6 +1,10 @@
 -- The three registers bit by bit, S7 the highest and S0 the lowest, and which register an address names.
-use Rattle.std.specs.Prelude.{ℕ, ◌+◌, ◌/◌, ◌%◌, ◌^◌, Bool, cond, not, ◌&&◌, ◌==◌}
+use Rattle.std.specs.Prelude.{ℕ, ◌+◌, ◌/◌, ◌%◌, ◌^◌, Bool, cond, not, ◌&&◌, Ok, Err, Result, ◌==◌}
 use Rattle.rules.specs.declared.flags.Flags.{Flags}
+use Rattle.rules.specs.declared.refusal.Refusal.{Refusal}
+use Rattle.rules.specs.declared.refusal.Refusal.TheVariants.{UnknownRegister}
+use Rattle.rules.specs.declared.register.Register.{Register}
+use Rattle.rules.specs.declared.register.Register.TheVariants.{Sr1, Sr2, Sr3}
 
 -- bit k of a byte; what a bit adds to it
 abbrev pub bit : ℕ → ℕ → ℕ
@@ -68,3 +72,6 @@ is_sr2 address = address / 16 == 11
 
 abbrev pub is_sr3 : ℕ → Bool
 is_sr3 address = address / 16 == 12
+
+abbrev pub register_at : ℕ → Result Register Refusal
+register_at address = cond (is_sr1 address) (Ok Sr1) (cond (is_sr2 address) (Ok Sr2) (cond (is_sr3 address) (Ok Sr3) (Err UnknownRegister)))

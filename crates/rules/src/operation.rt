@@ -1,6 +1,7 @@
-ghost use Rattle.std.specs.Prelude.{◌≡◌};
-ghost use Rattle.rules.specs.Chip.{busy};
+ghost use Rattle.std.specs.Prelude.{◌≡◌, Some};
 ghost use Rattle.rules.specs.Operations.{steps, begun};
+
+use crate::locks::Locks;
 
 // A page that a row names.
 #[derive(Clone, Copy, PartialEq, Eq, Debug)]
@@ -22,15 +23,15 @@ pub enum Operation {
     Program(Place),
     // the block that the address reaches is erased
     Erase { address: usize },
-    // the lock bits that are set
-    Lock { otp: bool, sr1: bool },
+    // these lock bits are set
+    Lock(Locks),
 }
 
 // The counter: `left` steps of an operation are left, and the last one acts.
 #[derive(Clone, Copy, PartialEq, Eq, Debug)]
-pub enum Pending {
-    Idle,
-    Doing { operation: Operation, left: u8 },
+pub struct Pending {
+    pub operation: Operation,
+    pub left: u8,
 }
 
 impl Operation {
@@ -40,30 +41,18 @@ impl Operation {
         match self {
             Operation::Load(_) => 1,
             Operation::Swap { .. } => 2,
-            Operation::Program(_) | Operation::Lock { .. } => 4,
+            Operation::Program(_) | Operation::Lock(_) => 4,
             Operation::Erase { .. } => 16,
         }
     }
 
     // The counter when the operation is taken.
     pub fn begin(self) -> Pending
-        ensures { result ≡ begun self }
+        ensures { Some result ≡ begun self }
     {
-        Pending::Doing {
+        Pending {
             operation: self,
             left: self.steps(),
-        }
-    }
-}
-
-impl Pending {
-    // BUSY: are steps left?
-    pub fn is_busy(self) -> bool
-        ensures { result ≡ busy self }
-    {
-        match self {
-            Pending::Idle => false,
-            Pending::Doing { .. } => true,
         }
     }
 }

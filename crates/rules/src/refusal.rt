@@ -1,24 +1,28 @@
-ghost use Rattle.std.specs.Prelude.{◌≡◌};
-ghost use Rattle.rules.specs.Outcomes.{outcome_number, refusal_number, refusal_place};
+ghost use Rattle.std.specs.Prelude.{◌≡◌, Some};
+ghost use Rattle.rules.specs.Outcomes.{outcome_number, refusal_number, refusal_place, of_frame, of_swap, part_word};
 
-// Why a transaction is refused, in the order in which the reasons are tried.
+use frames::refusal::FrameRefusal;
+use links::swap::SwapError;
+use std::fmt;
+
+// Why a transaction is refused, in the order in which the reasons are tried, by which they are numbered.
 #[derive(Clone, Copy, PartialEq, Eq, Debug)]
 pub enum Refusal {
-    Unfit,
-    UnlistedCode,
-    WrongCount,
-    Busy,
-    PinProtected,
-    UnknownRegister,
-    RegisterProtected,
-    LockForbidden,
-    LatchClear,
-    RowOutside,
-    RowProtected,
-    SwapOutside,
-    SwapLinked,
-    TableFull,
-    SwapSealed,
+    Unfit = 1,
+    UnlistedCode = 2,
+    WrongCount = 3,
+    Busy = 4,
+    PinProtected = 5,
+    UnknownRegister = 6,
+    RegisterProtected = 7,
+    LockForbidden = 8,
+    LatchClear = 9,
+    RowOutside = 10,
+    RowProtected = 11,
+    SwapOutside = 12,
+    SwapLinked = 13,
+    TableFull = 14,
+    SwapSealed = 15,
 }
 
 // The part of the card that refuses.
@@ -34,35 +38,12 @@ pub enum RefusalPlace {
     Links,
 }
 
-// What becomes of a transaction.
-#[derive(Clone, Copy, PartialEq, Eq, Debug)]
-pub enum Outcome {
-    Taken,
-    Refused(Refusal),
-}
-
 impl Refusal {
-    // 1 to 15, by the order of the reasons.
+    // 1 to 15.
     pub fn number(self) -> u8
         ensures { result ≡ refusal_number self }
     {
-        match self {
-            Refusal::Unfit => 1,
-            Refusal::UnlistedCode => 2,
-            Refusal::WrongCount => 3,
-            Refusal::Busy => 4,
-            Refusal::PinProtected => 5,
-            Refusal::UnknownRegister => 6,
-            Refusal::RegisterProtected => 7,
-            Refusal::LockForbidden => 8,
-            Refusal::LatchClear => 9,
-            Refusal::RowOutside => 10,
-            Refusal::RowProtected => 11,
-            Refusal::SwapOutside => 12,
-            Refusal::SwapLinked => 13,
-            Refusal::TableFull => 14,
-            Refusal::SwapSealed => 15,
-        }
+        self as u8
     }
 
     pub fn place(self) -> RefusalPlace
@@ -83,14 +64,61 @@ impl Refusal {
     }
 }
 
-impl Outcome {
-    // 0 if it is taken, else the number of the refusal.
-    pub fn number(self) -> u8
-        ensures { result ≡ outcome_number self }
+// What becomes of a transaction, as a number: 0 if it is taken, else that of the refusal.
+pub fn outcome_number<T: Drop>(outcome: Result<T, Refusal>) -> u8
+    ensures { result ≡ outcome_number outcome }
+{
+    match outcome {
+        Ok(_) => 0,
+        Err(refusal) => refusal.number(),
+    }
+}
+
+impl From<SwapError> for Refusal {
+    ghost from_gives = { λ error r. r ≡ of_swap error };
+
+    fn from(error: SwapError) -> Refusal {
+        match error {
+            SwapError::Outside => Refusal::SwapOutside,
+            SwapError::Linked => Refusal::SwapLinked,
+            SwapError::Full => Refusal::TableFull,
+        }
+    }
+}
+
+impl From<FrameRefusal> for Refusal {
+    ghost from_gives = { λ refusal r. r ≡ of_frame refusal };
+
+    fn from(refusal: FrameRefusal) -> Refusal {
+        match refusal {
+            FrameRefusal::UnlistedCode => Refusal::UnlistedCode,
+            FrameRefusal::WrongCount => Refusal::WrongCount,
+        }
+    }
+}
+
+impl RefusalPlace {
+    // The word for it.
+    pub fn as_str(self) -> &'static str
+        ensures { result.now ≡ part_word self }
     {
         match self {
-            Outcome::Taken => 0,
-            Outcome::Refused(refusal) => refusal.number(),
+            RefusalPlace::Card => "card",
+            RefusalPlace::Frame => "frame",
+            RefusalPlace::Counter => "counter",
+            RefusalPlace::Pin => "pin",
+            RefusalPlace::Register => "register",
+            RefusalPlace::Latch => "latch",
+            RefusalPlace::Address => "address",
+            RefusalPlace::Links => "links",
         }
+    }
+}
+
+impl fmt::Display for RefusalPlace {
+    ghost output = { λ place. Some (part_word place) };
+
+    fn fmt<W: fmt::Write>(&self, f: &mut fmt::Formatter<W>) -> fmt::Result {
+        f.write_str(self.as_str())
     }
 }

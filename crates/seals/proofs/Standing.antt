@@ -1,12 +1,11 @@
 -- A seal stands: over a run without a power cycle SR-1 is locked, so that the book finds the addresses sealed before each call.
-use Rattle.std.proofs.Common.{◌≡◌, ℕ, ◌<◌, true, ltb, sym, refl, ap, ◌∙◌}
+use Rattle.std.proofs.Common.{◌≡◌, ℕ, ◌<◌, true, ltb, Ok, Err, sym, refl, ap, ◌∙◌}
 use Rattle.std.proofs.lemmas.Bool.{cond_both}
 use Rattle.arrays.specs.Store.{Store, Shape}
 use Rattle.frames.specs.declared.instruction.RowOperation.{RowOperation}
 use Rattle.frames.specs.declared.instruction.RowOperation.TheVariants.{Program, Erase, Fetch}
 use Rattle.frames.specs.Frames.{Told, nothing, plain, read_register, write_register, swap, at_row, load_buffer, read_buffer, told}
-use Rattle.rules.specs.declared.refusal.Outcome.{Outcome}
-use Rattle.rules.specs.declared.refusal.Outcome.TheVariants.{Taken, Refused}
+use Rattle.rules.specs.Outcomes.{Outcome}
 use Rattle.rules.specs.Registers.{is_sr1, is_sr2, power_lock}
 use Rattle.rules.specs.Seal.{covers}
 use Rattle.rules.specs.Chip.{Chip}
@@ -30,15 +29,15 @@ row_keeps b Erase row = refl
 row_keeps b Fetch row = refl
 
 noted_keeps : (b : Book) (i : Told) (o : Outcome) → Keeps b (noted_by b i o)
-noted_keeps b i (Refused refusal) = refl
-noted_keeps b nothing Taken = refl
-noted_keeps b (plain x) Taken = refl
-noted_keeps b (read_register a) Taken = refl
-noted_keeps b (write_register a v) Taken = write_keeps b a v
-noted_keeps b (swap x y) Taken = refl
-noted_keeps b (at_row x row) Taken = row_keeps b x row
-noted_keeps b (load_buffer refill column xs) Taken = refl
-noted_keeps b (read_buffer column) Taken = refl
+noted_keeps b i (Err refusal) = refl
+noted_keeps b nothing (Ok done) = refl
+noted_keeps b (plain x) (Ok done) = refl
+noted_keeps b (read_register a) (Ok done) = refl
+noted_keeps b (write_register a v) (Ok done) = write_keeps b a v
+noted_keeps b (swap x y) (Ok done) = refl
+noted_keeps b (at_row x row) (Ok done) = row_keeps b x row
+noted_keeps b (load_buffer refill column xs) (Ok done) = refl
+noted_keeps b (read_buffer column) (Ok done) = refl
 
 settled_keeps : (due : Due) (g : Ledger) → (settled due g).blocks ≡ g.blocks
 settled_keeps (swap_of x y) g = refl
@@ -91,7 +90,7 @@ module _ (law : SealedCalibration) (main otp : Store) (main_shape : Shape main) 
 -- ---- a seal
 
 -- SR-1 is what a taken write of SR-1 writes
-written : (c : Chip) (o : Outcome) (v : ℕ) → o ≡ Taken → (chip_after c (write_register 160 v) o).passing.sr1 ≡ v
+written : (c : Chip) (o : Outcome) (v : ℕ) → o ≡ Ok tt → (chip_after c (write_register 160 v) o).passing.sr1 ≡ v
 written c o v e = ap (λ z. (chip_after c (write_register 160 v) z).passing.sr1) e
 
 pub standing : SealedCalibration → SealsStand

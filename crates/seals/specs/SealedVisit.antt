@@ -1,7 +1,6 @@
 -- A seal that is taken: what it writes, and that it stands until the next power cycle.
-use Rattle.std.specs.Prelude.{◌≡◌, ℕ, ◌<◌, Bool, true, List, [], ◌∷◌, bit_and, bit_or}
+use Rattle.std.specs.Prelude.{◌≡◌, ℕ, ◌<◌, Bool, true, List, [], ◌∷◌, Ok, bit_and, bit_or}
 use Rattle.arrays.specs.Store.{Store, Shape}
-use Rattle.rules.specs.declared.refusal.Outcome.TheVariants.{Taken}
 use Rattle.rules.specs.Registers.{power_lock}
 use Rattle.rules.specs.Seal.{covers}
 use Rattle.rules.specs.Chip.{Chip}
@@ -40,7 +39,7 @@ Stands main byte s = (j : Moment) (r : Run s j) → Throughout NoPowerCycle r �
 -- a seal of the card c, if any calls on a new card led to c, and the seal is taken
 abbrev pub SealStands : Chip → Bool → ℕ → Type 0
 SealStands c low byte =
-    (main otp : Store) → Shape main → Shape otp → (i : Moment) → Run (new main otp) i → i.chip ≡ c → (sealing c low byte).outcome ≡ Taken
+    (main otp : Store) → Shape main → Shape otp → (i : Moment) → Run (new main otp) i → i.chip ≡ c → (sealing c low byte).outcome ≡ Ok tt
     → Stands main byte (next i (seal_call low byte))
 
 abbrev pub SealsStand : Type 0
