@@ -1,7 +1,7 @@
 -- The refusals that depend on an instruction's own values: 6 to 15.
 use Rattle.std.specs.Prelude.{Bool, true, false, drop}
 use Rattle.frames.specs.Frames.{Told}
-use Rattle.rules.specs.declared.refusal.Outcome.{Outcome}
+use Rattle.rules.specs.Outcomes.{Outcome}
 use Rattle.rules.specs.Chip.{Chip}
 use Rattle.rules.specs.Refusals.{first, refusals}
 

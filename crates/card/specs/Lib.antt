@@ -1,4 +1,3 @@
 pub mod View
 pub mod Judged
 pub mod Promise
-pub mod Played

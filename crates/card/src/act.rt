@@ -1,7 +1,6 @@
-ghost use Rattle.std.specs.Prelude.{◌≡◌, if◌then◌else◌};
+ghost use Rattle.std.specs.Prelude.{◌≡◌, if◌then◌else◌, Ok, Err};
 ghost use Rattle.frames.specs.Views.{values};
 ghost use Rattle.frames.specs.Frames.{load_buffer};
-ghost use Rattle.rules.specs.declared.refusal.Outcome.TheVariants.{Taken, Refused};
 ghost use Rattle.rules.specs.Effects.{written, row_effect};
 ghost use Rattle.rules.specs.Chip.{blank_buffer, with_buffer};
 ghost use Rattle.rules.specs.Calls.{chip_after};
@@ -11,49 +10,43 @@ use crate::card::Card;
 use arrays::array::Array;
 use frames::instruction::{Instruction, RowOperation};
 use parts::buffer::put;
-use parts::effects::{after_refusal, simple_effect};
-use parts::flags::{with_sr2, without_fails};
-use parts::operations::lock_begun;
-use parts::registers::{new_otp_l, new_sr1_l};
-use parts::rows::{place_of, row_address};
 use rules::operation::Operation;
 use rules::refusal::Refusal;
+use rules::register::Register;
+use rules::sr1::Sr1;
 
 impl<M: Array, O: Array> Card<M, O> {
-    // A taken write of a register.
+    // A taken write of a register: SR-3 takes none.
     fn write_register(&mut self, address: u8, value: u8)
-        ensures { view M.Array.meaning O.Array.meaning self.new ≡ passing_now written (view M.Array.meaning O.Array.meaning self.old) address value }
+        ensures { view M.meaning O.meaning self.new ≡ passing_now written (view M.meaning O.meaning self.old) address value }
     {
-        match address / 16 {
-            10 => self.sr1 = value,
-            11 => {
-                let otp = new_otp_l(self.otp_l, value);
-                let sr1 = new_sr1_l(self.sr1_l, value);
-                self.flags = with_sr2(self.flags, value);
-                self.pending = lock_begun(otp, sr1, self.pending);
+        match Register::try_from(address) {
+            Ok(Register::Sr1) => self.sr1 = Sr1(value),
+            Ok(Register::Sr2) => {
+                self.flags = self.flags.with_sr2(value);
+                self.pending = self.locks.new_by(value).begin_or(self.pending);
             }
-            _ => {}
+            Ok(Register::Sr3) | Err(_) => {}
         }
     }
 
     // A taken 10h, D8h or 13h.
     fn begin_at_row(&mut self, operation: RowOperation, row: u16)
-        ensures { view M.Array.meaning O.Array.meaning self.new ≡ passing_now row_effect (view M.Array.meaning O.Array.meaning self.old) operation row }
+        ensures { view M.meaning O.meaning self.new ≡ passing_now row_effect (view M.meaning O.meaning self.old) operation row }
     {
-        let blocks = self.main.blocks();
-        let pages = self.main.pages();
-        let place = place_of(self.flags.otp_e, blocks, pages, row);
+        let rows = self.rows();
+        let place = rows.place(self.flags.otp_e, row);
         match operation {
             RowOperation::Program => {
-                self.flags = without_fails(self.flags);
-                self.pending = Operation::Program(place).begin();
+                self.flags = self.flags.without_fails();
+                self.pending = Some(Operation::Program(place).begin());
             }
             RowOperation::Erase => {
-                let address = row_address(blocks, pages, row);
-                self.flags = without_fails(self.flags);
-                self.pending = Operation::Erase { address }.begin();
+                let address = rows.address(row);
+                self.flags = self.flags.without_fails();
+                self.pending = Some(Operation::Erase { address }.begin());
             }
-            RowOperation::Fetch => self.pending = Operation::Load(place).begin(),
+            RowOperation::Fetch => self.pending = Some(Operation::Load(place).begin()),
         }
     }
 }
@@ -61,7 +54,7 @@ impl<M: Array, O: Array> Card<M, O> {
 impl<M: Array, O: Array> Card<M, O> {
     // FFh throughout, if all other bytes are to become FFh.
     fn blank_if(&mut self, refill: bool)
-        ensures { view M.Array.meaning O.Array.meaning self.new ≡ with_passing (with_buffer (if refill then blank_buffer else self.old.buffer)) (view M.Array.meaning O.Array.meaning self.old) }
+        ensures { view M.meaning O.meaning self.new ≡ with_passing (with_buffer (if refill then blank_buffer else self.old.buffer)) (view M.meaning O.meaning self.old) }
     {
         if refill {
             self.blank_buffer();
@@ -70,7 +63,7 @@ impl<M: Array, O: Array> Card<M, O> {
 
     // A taken load: the data goes into the buffer from the column on.
     fn load_buffer(&mut self, refill: bool, column: u16, data: &[u8])
-        ensures { view M.Array.meaning O.Array.meaning self.new ≡ chip_after (view M.Array.meaning O.Array.meaning self.old) (load_buffer refill column «data».now) Taken }
+        ensures { view M.meaning O.meaning self.new ≡ chip_after (view M.meaning O.meaning self.old) (load_buffer refill column «data».now) (Ok tt) }
     {
         self.blank_if(refill);
         put(&mut self.buffer, column, data);
@@ -78,16 +71,16 @@ impl<M: Array, O: Array> Card<M, O> {
 
     // What a taken instruction does at once.
     pub(crate) fn act(&mut self, instruction: Instruction<'_>)
-        ensures { view M.Array.meaning O.Array.meaning self.new ≡ chip_after (view M.Array.meaning O.Array.meaning self.old) (values instruction.entry) Taken }
+        ensures { view M.meaning O.meaning self.new ≡ chip_after (view M.meaning O.meaning self.old) (values instruction.entry) (Ok tt) }
     {
         match instruction {
-            Instruction::Plain(simple) => self.flags = simple_effect(simple, self.flags),
+            Instruction::Plain(simple) => self.flags = self.flags.after_simple(simple),
             Instruction::ReadRegister { .. } => {}
             Instruction::WriteRegister { address, value } => self.write_register(address, value),
-            Instruction::Swap { first, second } => self.pending = Operation::Swap {
+            Instruction::Swap { first, second } => self.pending = Some(Operation::Swap {
                 first,
                 second,
-            }.begin(),
+            }.begin()),
             Instruction::AtRow { operation, row } => self.begin_at_row(operation, row),
             Instruction::LoadBuffer {
                 refill,
@@ -100,8 +93,8 @@ impl<M: Array, O: Array> Card<M, O> {
 
     // What a refused instruction does: only a protected row leaves a trace.
     pub(crate) fn refuse(&mut self, refusal: Refusal, instruction: Instruction<'_>)
-        ensures { view M.Array.meaning O.Array.meaning self.new ≡ chip_after (view M.Array.meaning O.Array.meaning self.old) (values instruction.entry) (Refused refusal) }
+        ensures { view M.meaning O.meaning self.new ≡ chip_after (view M.meaning O.meaning self.old) (values instruction.entry) (Err refusal) }
     {
-        self.flags = after_refusal(refusal, instruction, self.flags);
+        self.flags = self.flags.after_refusal(refusal, instruction);
     }
 }

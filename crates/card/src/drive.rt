@@ -8,28 +8,24 @@ use crate::card::Card;
 use arrays::array::Array;
 use frames::instruction::{Instruction, Simple};
 use parts::area::{drive, drive_from, flood, identify, silence};
-use parts::registers::{sr2, sr3};
+use rules::register::Register;
 
 impl<M: Array, O: Array> Card<M, O> {
-    // The register that the address names, which is one of the three.
+    // What the register that the address names reads; a taken address names one.
     fn register(&self, address: u8) -> u8
-        ensures { result ≡ register (view M.Array.meaning O.Array.meaning self.now) address }
+        ensures { result ≡ register (view M.meaning O.meaning self.now) address }
     {
-        match address / 16 {
-            10 => self.sr1,
-            11 => sr2(self.otp_l, self.sr1_l, self.flags),
-            _ => sr3(
-                self.main.table.is_full(),
-                self.flags,
-                self.pending.is_busy(),
-            ),
+        match Register::try_from(address) {
+            Ok(Register::Sr1) => self.sr1.0,
+            Ok(Register::Sr2) => self.flags.sr2(self.locks),
+            Ok(Register::Sr3) | Err(_) => self.flags.sr3(self.main.table.is_full(), self.is_busy()),
         }
     }
 
     // Drives what the instruction drives, and tells how many bytes the area took.
     pub(crate) fn drive(&self, instruction: Instruction<'_>, area: &mut [u8]) -> usize
-        ensures count { result ≡ min (length area.old) (length (drives (view M.Array.meaning O.Array.meaning self.now) (length area.old) (values instruction.entry))) }
-        ensures after { area.new ≡ area_of (length area.old) (drives (view M.Array.meaning O.Array.meaning self.now) (length area.old) (values instruction.entry)) }
+        ensures count { result ≡ min (length area.old) (length (drives (view M.meaning O.meaning self.now) (length area.old) (values instruction.entry))) }
+        ensures after { area.new ≡ area_of (length area.old) (drives (view M.meaning O.meaning self.now) (length area.old) (values instruction.entry)) }
     {
         match instruction {
             Instruction::Plain(Simple::Identify) => identify(area),

@@ -1,13 +1,12 @@
 #![tactic(auto)]
 
 mod act;
-pub mod call;
+mod calls;
 pub mod card;
+mod carry_out;
 mod drive;
 mod finish;
 mod judge;
 mod make;
-pub mod play;
 mod power;
-mod step;
-mod transact;
+pub mod store_card;

@@ -3,18 +3,19 @@ ghost use Rattle.rules.specs.Calls.{new_card};
 ghost use Rattle.card.specs.View.{view};
 ghost use Rattle.card.specs.Promise.{CalibrationKept};
 
-use crate::card::{Card, PAGE};
-use arrays::array::Array;
+use crate::card::Card;
+use crate::store_card::StoreCard;
+use arrays::array::{Array, PAGE};
 use linked::linked::Linked;
 use links::table::Table;
-use parts::flags::power_up;
-use parts::sr1::POWER_UP;
+use rules::flags::Flags;
 use rules::law::sealed_calibration_holds;
-use rules::operation::Pending;
+use rules::locks::Locks;
+use rules::sr1::Sr1;
 
 // The law of sealed calibration for every card that is made over these arrays.
 fn calibration_kept<M: Array, O: Array>(main: &M, otp: &O)
-    ensures { CalibrationKept (M.Array.meaning main.now) (O.Array.meaning otp.now) }
+    ensures { CalibrationKept (M.meaning main.now) (O.meaning otp.now) }
 {
     let _n = main.blocks();
     let _m = otp.blocks();
@@ -24,19 +25,18 @@ fn calibration_kept<M: Array, O: Array>(main: &M, otp: &O)
 impl<M: Array, O: Array> Card<M, O> {
     // A new card: an unused link table and both lock bits 0, after a power cycle.
     pub fn new(main: M, otp: O) -> Card<M, O>
-        ensures view { view M.Array.meaning O.Array.meaning result ≡ new_card (M.Array.meaning main) (O.Array.meaning otp) }
-        ensures law { CalibrationKept (M.Array.meaning main) (O.Array.meaning otp) }
+        ensures view { view M.meaning O.meaning result ≡ new_card (M.meaning main) (O.meaning otp) }
+        ensures law { CalibrationKept (M.meaning main) (O.meaning otp) }
     {
         calibration_kept(&main, &otp);
         let mut card = Card {
             main: Linked::new(main, Table::new()),
             otp,
-            otp_l: false,
-            sr1_l: false,
-            sr1: POWER_UP,
-            flags: power_up(),
+            locks: Locks::NONE,
+            sr1: Sr1::POWER_UP,
+            flags: Flags::power_up(),
             buffer: [0xff; PAGE],
-            pending: Pending::Idle,
+            pending: None,
         };
         card.power_cycle();
         card

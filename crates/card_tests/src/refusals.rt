@@ -6,7 +6,7 @@ use std::alloc::Global;
 use std::test::Fail;
 
 // The frame, the counter, the pin and the registers.
-const FRONT: [Line; 22] = [
+const FRONT: [Line<'static>; 22] = [
     High(&[], 2),
     High(&[0xa9], 2),
     High(&[0x06, 0x00], 3),
@@ -32,7 +32,7 @@ const FRONT: [Line; 22] = [
 ];
 
 // The latch, the rows and the links.
-const BACK: [Line; 22] = [
+const BACK: [Line<'static>; 22] = [
     High(&[0x02, 0, 0, 0x55], 9),
     High(&[0x01, 0xb0, 0x40], 0),
     High(&[0x13, 0, 0, 12], 10),
@@ -62,7 +62,7 @@ fn play_on_new(
     heap: Global,
     otp_pages: usize,
     otp_length: usize,
-    lines: &[Line],
+    lines: &[Line<'_>],
 ) -> Result<usize, Fail> {
     let mut main = vec![in heap; 0u8; 16_912]?;
     let mut otp = vec![in heap; 0u8; otp_length]?;
@@ -97,7 +97,7 @@ fn an_unfit_card_refuses_with_1(rt: HostRuntime) -> Result<(), Fail> {
 }
 
 // The swaps 0, 1 and 0, 2 and so on, of which the table takes 20.
-const SWAPS: [Line; 9] = [
+const SWAPS: [Line<'static>; 9] = [
     High(&[0xa1, 0, 0, 0, 1], 0),
     Step(1),
     Step(0),

@@ -1,26 +1,26 @@
-use arrays::array::Array;
-use card::card::Card;
+use card::store_card::StoreCard;
+use rules::refusal::outcome_number;
 
-// One call of a script, with the number that it answers.
+// One call of a script, with the number that it answers: data, since a table holds no closures.
 #[derive(Clone, Copy)]
-pub(crate) enum Line {
+pub(crate) enum Line<'a> {
     // a transaction with /WP high, and one with /WP low
-    High(&'static [u8], u8),
-    Low(&'static [u8], u8),
+    High(&'a [u8], u8),
+    Low(&'a [u8], u8),
     // a transaction with an area of one byte, and what stands in it then
-    Shows(&'static [u8], u8),
+    Shows(&'a [u8], u8),
     Step(u8),
     Power,
 }
 
 // Whether the card answers this line.
-fn answers<M: Array, O: Array>(card: &mut Card<M, O>, line: Line) -> bool {
+fn answers<C: StoreCard>(card: &mut C, line: Line<'_>) -> bool {
     match line {
-        Line::High(sent, number) => card.transact(sent, false, &mut []).0.number() == number,
-        Line::Low(sent, number) => card.transact(sent, true, &mut []).0.number() == number,
+        Line::High(sent, number) => outcome_number(card.transact(sent, false, &mut [])) == number,
+        Line::Low(sent, number) => outcome_number(card.transact(sent, true, &mut [])) == number,
         Line::Shows(sent, byte) => {
             let mut area = [0];
-            card.transact(sent, false, &mut area).0.number() == 0 && area[0] == byte
+            card.transact(sent, false, &mut area).is_ok() && area[0] == byte
         }
         Line::Step(left) => card.step() == left,
         Line::Power => card.power_cycle() == 0,
@@ -28,13 +28,9 @@ fn answers<M: Array, O: Array>(card: &mut Card<M, O>, line: Line) -> bool {
 }
 
 // How many lines the card answers before the first that it does not.
-pub(crate) fn right_lines<M: Array, O: Array>(card: &mut Card<M, O>, lines: &[Line]) -> usize {
-    let mut right = 0usize;
-    for line in lines {
-        if !answers(card, *line) {
-            return right;
-        }
-        right = right.saturating_add(1);
-    }
-    right
+pub(crate) fn right_lines<C: StoreCard>(card: &mut C, lines: &[Line<'_>]) -> usize {
+    lines
+        .iter()
+        .take_while(|line| answers(card, **line))
+        .count()
 }

@@ -5,7 +5,7 @@ use card::card::Card;
 use std::test::Fail;
 
 // At life 1 an erase finishes and the next program sets P-FAIL.
-const LAST_LIFE: [Line; 6] = [
+const LAST_LIFE: [Line<'static>; 6] = [
     High(&[0x01, 0xa0, 0x00], 0),
     High(&[0x06], 0),
     High(&[0xd8, 0, 0, 0], 0),
@@ -14,7 +14,7 @@ const LAST_LIFE: [Line; 6] = [
     Step(14),
 ];
 
-const THEN_WORN: [Line; 9] = [
+const THEN_WORN: [Line<'static>; 9] = [
     Step(0),
     Shows(&[0x05, 0xc0], 0x00),
     High(&[0x06], 0),
@@ -27,7 +27,7 @@ const THEN_WORN: [Line; 9] = [
 ];
 
 // A page with 0Fh at its first byte, and an erase of its block that a power cycle drops.
-const PROGRAMMED: [Line; 8] = [
+const PROGRAMMED: [Line<'static>; 8] = [
     High(&[0x01, 0xa0, 0x00], 0),
     High(&[0x06], 0),
     High(&[0x02, 0, 0, 0x0f], 0),
@@ -38,10 +38,10 @@ const PROGRAMMED: [Line; 8] = [
     Step(0),
 ];
 
-const DROPPED: [Line; 4] = [Step(1), Power, Step(0), Shows(&[0x03, 0, 0, 0], 0x0f)];
+const DROPPED: [Line<'static>; 4] = [Step(1), Power, Step(0), Shows(&[0x03, 0, 0, 0], 0x0f)];
 
 // Steps of an erase that are not its last, from this many left on.
-fn steps_down(from: u8) -> [Line; 1] {
+fn steps_down(from: u8) -> [Line<'static>; 1] {
     [Step(from)]
 }
 
