@@ -1,12 +1,13 @@
 -- A list of calls on one card: the run that they make, and what they answer.
-use Rattle.std.specs.Prelude.{◌≡◌, ℕ, List, [], ◌∷◌, length}
+use Rattle.std.specs.Prelude.{◌≡◌, ℕ, List, [], ◌∷◌, length, Ok, Err}
 use Rattle.arrays.specs.Store.{Store}
 use Rattle.rules.specs.Chip.{Chip}
 use Rattle.rules.specs.Outcomes.{outcome_number}
-use Rattle.rules.specs.Calls.{transact, step, power_cycle, new_card}
+use Rattle.rules.specs.Calls.{transact, answer, step, power_cycle, new_card}
 use Rattle.rules.specs.Law as law
 use Rattle.rules.specs.Law.{Moment, Run, transaction, one_step, power_cycled, next, new}
-use Rattle.play.specs.declared.call.Answered.{Answered}
+use Rattle.play.specs.declared.call.Answer.{Answer}
+use Rattle.play.specs.declared.call.Answer.TheVariants.{Sent, Left, Powered}
 use Rattle.play.specs.declared.call.Call.{Call}
 use Rattle.play.specs.declared.call.Call.TheVariants.{Transaction, Step, PowerCycle}
 
@@ -16,11 +17,24 @@ ruled n (Transaction sent low) = transaction sent.now low n
 ruled n Step = one_step
 ruled n PowerCycle = power_cycled
 
--- what a call answers: an outcome's number with the count of driven bytes, the steps left, or 0
-abbrev pub answer_to : Chip → ℕ → Call → Answered
-answer_to c n (Transaction sent low) = let r = transact c sent.now low n in record { number = outcome_number r.outcome; driven = r.driven }
-answer_to c n Step = record { number = (step c).left; driven = 0 }
-answer_to c n PowerCycle = record { number = 0; driven = 0 }
+-- what a call answers: the count of driven bytes or the refusal, the steps left, or that power came back
+abbrev pub answer_to : Chip → ℕ → Call → Answer
+answer_to c n (Transaction sent low) = Sent (answer (transact c sent.now low n))
+answer_to c n Step = Left (step c).left
+answer_to c n PowerCycle = Powered
+
+-- an answer as a number: the outcome's, the steps left, or 0
+abbrev pub number_of : Answer → ℕ
+number_of (Sent outcome) = outcome_number outcome
+number_of (Left left) = left
+number_of Powered = 0
+
+-- and the count of driven bytes: nothing is driven by a refused transaction, a step and a power cycle
+abbrev pub driven_of : Answer → ℕ
+driven_of (Sent (Ok driven)) = driven
+driven_of (Sent (Err refusal)) = 0
+driven_of (Left left) = 0
+driven_of Powered = 0
 
 -- what the area holds after one call
 abbrev pub area_after : Chip → Call → List ℕ → List ℕ
@@ -44,7 +58,7 @@ area_after_calls c n [] area = area
 area_after_calls c n (call ∷ calls) area = area_after_calls (chip_after_call c n call) n calls (area_after c call area)
 
 -- what a list of calls answers
-abbrev pub answers_to : Chip → ℕ → List Call → List Answered
+abbrev pub answers_to : Chip → ℕ → List Call → List Answer
 answers_to c n [] = []
 answers_to c n (call ∷ calls) = answer_to c n call ∷ answers_to (chip_after_call c n call) n calls
 

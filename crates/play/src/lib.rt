@@ -1,4 +1,6 @@
 #![tactic(auto)]
 
 pub mod call;
+pub mod log;
 pub mod play;
+pub mod wrong_log;

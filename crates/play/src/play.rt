@@ -1,53 +1,49 @@
-ghost use Rattle.std.specs.Prelude.{◌≡◌, ℕ, length, if◌then◌else◌, ◌==◌, nat_eq};
+ghost use Rattle.std.specs.Prelude.{◌≡◌, ℕ, length, map, is_ok, if◌then◌else◌, ◌==◌, nat_eq};
+ghost use Rattle.arrays.specs.Store.{Store};
 ghost use Rattle.rules.specs.Calls.{new_card};
 ghost use Rattle.card.specs.Promise.{CalibrationKept};
 ghost use Rattle.card.specs.View.{view};
 ghost use Rattle.play.specs.Played.{chip_after_call, chip_after_calls, answer_to, answers_to, area_after, area_after_calls, Made};
-ghost use Rattle.arrays.specs.Store.{Store};
+ghost use Rattle.play.specs.Unplayed.{card_in};
 
-use crate::call::{Answered, Call};
+use crate::call::{Answer, Call};
+use crate::log::Entry;
+use crate::wrong_log::WrongLog;
 use arrays::array::Array;
 use card::card::Card;
+use card::store_card::StoreCard;
 
 // Makes one call with the area, and tells what it answers.
-fn make<M: Array, O: Array>(card: &mut Card<M, O>, call: Call<'_>, area: &mut [u8]) -> Answered
-    ensures chip { view M.Array.meaning O.Array.meaning card.new ≡ chip_after_call (view M.Array.meaning O.Array.meaning card.old) (length area.old) call.entry }
-    ensures answer { result ≡ answer_to (view M.Array.meaning O.Array.meaning card.old) (length area.old) call.entry }
-    ensures area { area.new ≡ area_after (view M.Array.meaning O.Array.meaning card.old) call.entry area.old }
+fn make<C: StoreCard>(card: &mut C, call: Call<'_>, area: &mut [u8]) -> Answer
+    ensures chip { C.chip card.new ≡ chip_after_call (C.chip card.old) (length area.old) call.entry }
+    ensures answer { result ≡ answer_to (C.chip card.old) (length area.old) call.entry }
+    ensures area { area.new ≡ area_after (C.chip card.old) call.entry area.old }
 {
     match call {
-        Call::Transaction { sent, low } => {
-            let (outcome, driven) = card.transact(sent, low, area);
-            Answered {
-                number: outcome.number(),
-                driven,
-            }
+        Call::Transaction { sent, low } => Answer::Sent(card.transact(sent, low, area)),
+        Call::Step => Answer::Left(card.step()),
+        Call::PowerCycle => {
+            card.power_cycle();
+            Answer::Powered
         }
-        Call::Step => Answered {
-            number: card.step(),
-            driven: 0,
-        },
-        Call::PowerCycle => Answered {
-            number: card.power_cycle(),
-            driven: 0,
-        },
     }
 }
 
 // The calls in their order; the log gets what each answers.
-fn log_calls<M: Array, O: Array>(
-    card: &mut Card<M, O>,
+fn log_calls<C: StoreCard, E: Entry + Drop>(
+    card: &mut C,
     calls: &[Call<'_>],
     area: &mut [u8],
-    log: &mut [Answered],
+    log: &mut [E],
 )
     requires { length calls.now ≡ length log.old }
-    ensures chip { view M.Array.meaning O.Array.meaning card.new ≡ chip_after_calls (view M.Array.meaning O.Array.meaning card.old) (length area.old) calls.now }
-    ensures log { log.new ≡ answers_to (view M.Array.meaning O.Array.meaning card.old) (length area.old) calls.now }
-    ensures area { area.new ≡ area_after_calls (view M.Array.meaning O.Array.meaning card.old) (length area.old) calls.now area.old }
+    ensures chip { C.chip card.new ≡ chip_after_calls (C.chip card.old) (length area.old) calls.now }
+    ensures log { log.new ≡ map E.kept (answers_to (C.chip card.old) (length area.old) calls.now) }
+    ensures area { area.new ≡ area_after_calls (C.chip card.old) (length area.old) calls.now area.old }
 {
-    for i in 0..calls.len() {
-        log[i] = make(card, calls[i], area);
+    // The log by index, since after `log.iter_mut().zip(calls)` a proof knows none of its entries.
+    for (i, call) in calls.iter().enumerate() {
+        log[i] = E::keep(make(card, *call, area));
     }
 }
 
@@ -58,43 +54,26 @@ fn are_a_run(calls: &[Call<'_>])
     let _none = calls.is_empty();
 }
 
-// Makes a new card and the calls on it; the log gets what each call answers.
-fn play_all<M: Array, O: Array>(
+// Makes a new card and the calls on it, with the area lent to each; another slice, as long as the calls (which may stand in memory that is only read), logs the answers.
+pub fn play<M: Array, O: Array, E: Entry + Drop>(
     main: M,
     otp: O,
     calls: &[Call<'_>],
     area: &mut [u8],
-    log: &mut [Answered],
-) -> Card<M, O>
-    requires { length calls.now ≡ length log.old }
-    ensures card { view M.Array.meaning O.Array.meaning result ≡ chip_after_calls (new_card (M.Array.meaning main) (O.Array.meaning otp)) (length area.old) calls.now }
-    ensures answers { log.new ≡ answers_to (new_card (M.Array.meaning main) (O.Array.meaning otp)) (length area.old) calls.now }
-    ensures area { area.new ≡ area_after_calls (new_card (M.Array.meaning main) (O.Array.meaning otp)) (length area.old) calls.now area.old }
-    ensures law { CalibrationKept (M.Array.meaning main) (O.Array.meaning otp) }
-{
-    let mut card = Card::new(main, otp);
-    log_calls(&mut card, calls, area, log);
-    card
-}
-
-// The same, with each transaction's area lent. A log of another length than the list of calls is refused: nothing is called then.
-pub fn play<M: Array, O: Array>(
-    main: M,
-    otp: O,
-    calls: &[Call<'_>],
-    area: &mut [u8],
-    log: &mut [Answered],
-) -> (Card<M, O>, bool)
-    ensures done { result.1 ≡ (length calls.now == length log.old) }
-    ensures card { view M.Array.meaning O.Array.meaning result.0 ≡ (if nat_eq (length calls.now) (length log.old) then chip_after_calls (new_card (M.Array.meaning main) (O.Array.meaning otp)) (length area.old) calls.now else new_card (M.Array.meaning main) (O.Array.meaning otp)) }
-    ensures answers { log.new ≡ (if nat_eq (length calls.now) (length log.old) then answers_to (new_card (M.Array.meaning main) (O.Array.meaning otp)) (length area.old) calls.now else log.old) }
-    ensures area { area.new ≡ (if nat_eq (length calls.now) (length log.old) then area_after_calls (new_card (M.Array.meaning main) (O.Array.meaning otp)) (length area.old) calls.now area.old else area.old) }
-    ensures law { CalibrationKept (M.Array.meaning main) (O.Array.meaning otp) }
+    log: &mut [E],
+) -> Result<Card<M, O>, WrongLog<M, O>>
+    ensures done { is_ok result ≡ (length calls.now == length log.old) }
+    ensures card { view M.meaning O.meaning (card_in result) ≡ (if nat_eq (length calls.now) (length log.old) then chip_after_calls (new_card (M.meaning main) (O.meaning otp)) (length area.old) calls.now else new_card (M.meaning main) (O.meaning otp)) }
+    ensures answers { log.new ≡ (if nat_eq (length calls.now) (length log.old) then map E.kept (answers_to (new_card (M.meaning main) (O.meaning otp)) (length area.old) calls.now) else log.old) }
+    ensures area { area.new ≡ (if nat_eq (length calls.now) (length log.old) then area_after_calls (new_card (M.meaning main) (O.meaning otp)) (length area.old) calls.now area.old else area.old) }
+    ensures law { CalibrationKept (M.meaning main) (O.meaning otp) }
     ensures run { (n : ℕ) (main otp : Store) → Made n calls.now main otp }
 {
     are_a_run(calls);
+    let mut card = Card::new(main, otp);
     if calls.len() != log.len() {
-        return (Card::new(main, otp), false);
+        return Err(WrongLog { card });
     }
-    (play_all(main, otp, calls, area, log), true)
+    log_calls(&mut card, calls, area, log);
+    Ok(card)
 }
