@@ -1,9 +1,7 @@
 -- What a deed does to a card: transactions and steps in their order, up to the first transaction that is refused.
-use Rattle.std.specs.Prelude.{ℕ, zero, suc, max, Bool, List, [], ◌∷◌, length, Ok, Err, Result}
+use Rattle.std.specs.Prelude.{ℕ, zero, suc, max, Bool, List, [], ◌∷◌, length, Some, None, Ok, Err, Option, Result}
 use Rattle.rules.specs.declared.operation.Pending.{Pending}
-use Rattle.rules.specs.declared.operation.Pending.TheVariants.{Idle, Doing}
-use Rattle.rules.specs.declared.refusal.Outcome.{Outcome}
-use Rattle.rules.specs.declared.refusal.Outcome.TheVariants.{Taken, Refused}
+use Rattle.rules.specs.declared.refusal.Refusal.{Refusal}
 use Rattle.rules.specs.Chip.{Chip}
 use Rattle.rules.specs.Calls.{transact, step}
 use Rattle.acts.specs.declared.act.Act.{Act}
@@ -24,9 +22,10 @@ abbrev pub code_of : List ℕ → ℕ
 code_of [] = 0
 code_of (code ∷ rest) = code
 
-abbrev pub answer_by : Outcome → List ℕ → Result (Unit {0}) Cause
-answer_by Taken sent = Ok tt
-answer_by (Refused refusal) sent = Err (cause.Refused refusal (code_of sent))
+-- nothing is told of what a taken one gives
+abbrev pub answer_by : {A : Type 0} → Result A Refusal → List ℕ → Result (Unit {0}) Cause
+answer_by (Ok given) sent = Ok tt
+answer_by (Err refusal) sent = Err (cause.Refused refusal (code_of sent))
 
 -- of the sent bytes, with /WP low or not, and an area of n bytes
 unfoldable pub sent_to : Chip → List ℕ → Bool → ℕ → Course
@@ -39,9 +38,9 @@ after_steps zero c = c
 after_steps (suc n) c = after_steps n (step c).chip
 
 -- how many steps the pending operation takes
-abbrev pub awaited : Pending → ℕ
-awaited Idle = 0
-awaited (Doing operation left) = max 1 left
+abbrev pub awaited : Option Pending → ℕ
+awaited None = 0
+awaited (Some p) = max 1 p.left
 
 unfoldable pub settled : Chip → Chip
 settled c = after_steps (awaited c.passing.pending) c

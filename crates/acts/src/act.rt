@@ -1,4 +1,4 @@
-// One thing that a deed does to a card.
+// One thing that a deed does to a card. Data and no closure, so that contracts list what is sent.
 #[derive(Clone, Copy)]
 pub enum Act<'a> {
     // a transaction with no area

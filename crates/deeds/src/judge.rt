@@ -5,15 +5,11 @@ use faults::fault::{Cause, Fault};
 
 // The first column from which on two pages of one length differ.
 fn first_difference(page: &[u8], bytes: &[u8]) -> Option<usize>
-    requires { length page.now ≡ length bytes.now }
-    ensures { result ≡ first_difference 0 page.now bytes.now }
+    ensures { result ≡ first_difference page.now bytes.now }
 {
-    for column in 0..page.len() {
-        if page[column] != bytes[column] {
-            return Some(column);
-        }
-    }
-    None
+    page.iter()
+        .zip(bytes)
+        .position(|(read, right)| read != right)
 }
 
 // Were all bytes read as they should be?
@@ -22,7 +18,6 @@ pub(crate) fn unless_different(
     page: &[u8],
     bytes: &[u8],
 ) -> Result<(), Cause>
-    requires { length page.now ≡ length bytes.now }
     ensures { result ≡ unless_different fetched page.now bytes.now }
 {
     fetched?;
@@ -32,7 +27,7 @@ pub(crate) fn unless_different(
     }
 }
 
-// Does SR-3 show no P-FAIL?
+// Does SR-3 show no P-FAIL? S3 is one bit of a byte that was read, so no `Flags` are made of it.
 pub(crate) fn unless_worn(programmed: Result<(), Cause>, sr3: u8) -> Result<(), Cause>
     ensures { result ≡ unless_worn programmed sr3 }
 {
@@ -47,8 +42,5 @@ pub(crate) fn unless_worn(programmed: Result<(), Cause>, sr3: u8) -> Result<(), 
 pub(crate) fn told_at(row: u16, answer: Result<(), Cause>) -> Result<(), Fault>
     ensures { result ≡ told_at row answer }
 {
-    match answer {
-        Ok(()) => Ok(()),
-        Err(cause) => Err(Fault { cause, row }),
-    }
+    answer.map_err(|cause| Fault { cause, row })
 }

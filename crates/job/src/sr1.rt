@@ -1,16 +1,22 @@
 ghost use Rattle.std.specs.Prelude.{◌≡◌};
-ghost use Rattle.card.specs.View.{view};
+ghost use Rattle.rules.specs.Calls.{uncounted};
 ghost use Rattle.seals.specs.SealedVisit.{sr1_written};
 
-use arrays::array::Array;
-use card::card::Card;
-use rules::refusal::Outcome;
+use card::store_card::StoreCard;
+use rules::refusal::Refusal;
 
 // Writes SR-1.
-pub(crate) fn write_sr1<M: Array, O: Array>(card: &mut Card<M, O>, low: bool, value: u8) -> Outcome
-    ensures chip { view M.Array.meaning O.Array.meaning card.new ≡ (sr1_written (view M.Array.meaning O.Array.meaning card.old) low value).chip }
-    ensures outcome { result ≡ (sr1_written (view M.Array.meaning O.Array.meaning card.old) low value).outcome }
+pub(crate) fn write_sr1<C: StoreCard>(card: &mut C, low: bool, value: u8) -> Result<(), Refusal>
+    ensures chip { C.chip card.new ≡ (sr1_written (C.chip card.old) low value).chip }
+    ensures outcome { result ≡ (sr1_written (C.chip card.old) low value).outcome }
 {
-    let (outcome, _) = card.transact(&[0x01, 0xa0, value], low, &mut []);
-    outcome
+    let answer = card.transact(&[0x01, 0xa0, value], low, &mut []);
+    uncounted(answer)
+}
+
+// The outcome alone.
+fn uncounted(answer: Result<usize, Refusal>) -> Result<(), Refusal>
+    ensures { result ≡ uncounted answer }
+{
+    answer.map(|_driven| ())
 }

@@ -1,13 +1,11 @@
-use arrays::array::Array;
-use card::card::Card;
+use arrays::array::PAGE;
+use card::store_card::StoreCard;
 use faults::fault::Fault;
 use job::opened::open;
-use job::state::{Checked, Opened};
+use job::state::{Checked, Job, Opened};
+use rules::refusal::outcome_number;
 
-// The bytes of a page.
-pub(crate) const PAGE: usize = 2112;
-
-// The deed that is to tell a fault, with the row or the byte that it is given.
+// The deed that is to tell a fault, with the row or the byte that it is given: data, since a table of cases holds no closures.
 #[derive(Clone, Copy)]
 pub(crate) enum Deed {
     Open,
@@ -17,119 +15,115 @@ pub(crate) enum Deed {
 }
 
 // Makes a transaction, as someone else on the bus would.
-pub(crate) fn send<M: Array, O: Array>(card: &mut Card<M, O>, sent: &[u8]) -> u8 {
-    card.transact(sent, false, &mut []).0.number()
+pub(crate) fn send<C: StoreCard>(card: &mut C, sent: &[u8]) -> u8 {
+    outcome_number(card.transact(sent, false, &mut []))
 }
 
-// The fault of a seal, if it tells one; the job is ended.
-fn seal_fault<M: Array, O: Array>(
+// Gives a job up after a fault, at whatever stage it is.
+pub(crate) fn give_up<Stage: Drop, C: StoreCard>(
+    job: Job<Stage>,
+    card: &mut C,
+    low: bool,
+    fault: Fault,
+) -> Fault {
+    let _ = job.give_up(card, low);
+    fault
+}
+
+// Opens a job and gives it up.
+fn try_open<C: StoreCard>(card: &mut C, low: bool) -> Result<(), Fault> {
+    let job = open(card, low)?;
+    let _ = job.give_up(card, low);
+    Ok(())
+}
+
+// Seals, and gives the job up where the seal is refused.
+pub(crate) fn try_seal<C: StoreCard>(
     job: Checked,
-    card: &mut Card<M, O>,
+    card: &mut C,
     low: bool,
     byte: u8,
-) -> Option<Fault> {
+) -> Result<(), Fault> {
     match job.seal(card, low, byte) {
-        Ok(()) => None,
-        Err((job, fault)) => {
-            job.give_up(card, low);
-            Some(fault)
-        }
+        Ok(()) => Ok(()),
+        Err((job, fault)) => Err(give_up(job, card, low, fault)),
     }
 }
 
-// The fault of a check, if it tells one; the job is ended.
-fn check_fault<M: Array, O: Array>(
+// Checks the page at the row, and gives the job up.
+pub(crate) fn try_check<C: StoreCard>(
     job: Opened,
-    card: &mut Card<M, O>,
+    card: &mut C,
     low: bool,
     row: u16,
     page: &[u8],
-) -> Option<Fault> {
-    let mut area = [0; PAGE];
-    match job.check(card, low, row, page, &mut area) {
+    area: &mut [u8],
+) -> Result<(), Fault> {
+    match job.check(card, low, row, page, area) {
         Ok(job) => {
-            job.give_up(card, low);
-            None
+            let _ = job.give_up(card, low);
+            Ok(())
         }
-        Err((job, fault)) => {
-            job.give_up(card, low);
-            Some(fault)
-        }
+        Err((job, fault)) => Err(give_up(job, card, low, fault)),
     }
 }
 
-// The fault of a write, if it tells one; the job is ended.
-fn write_fault<M: Array, O: Array>(
+// Writes the page at the row, and gives the job up.
+fn try_write<C: StoreCard>(
     job: Opened,
-    card: &mut Card<M, O>,
+    card: &mut C,
     low: bool,
     row: u16,
     page: &[u8],
-) -> Option<Fault> {
+) -> Result<(), Fault> {
     let written = job.write(card, low, row, page);
-    job.give_up(card, low);
-    match written {
-        Ok(()) => None,
-        Err(fault) => Some(fault),
-    }
+    let _ = job.give_up(card, low);
+    written
 }
 
-// Checks the page at row 0, sends, and seals; gives the fault of the seal, or of what came before.
-fn seal_after<M: Array, O: Array>(
+// Checks the page at row 0, sends, and seals.
+fn seal_after<C: StoreCard>(
     job: Opened,
-    card: &mut Card<M, O>,
+    card: &mut C,
     low: bool,
     byte: u8,
     before: &[u8],
-) -> Option<Fault> {
-    let mut area = [0; PAGE];
-    match job.check(card, false, 0, &[0xff; PAGE], &mut area) {
+) -> Result<(), Fault> {
+    match job.check(card, false, 0, &[0xff; PAGE], &mut [0; PAGE]) {
         Ok(job) => {
             send(card, before);
-            seal_fault(job, card, low, byte)
+            try_seal(job, card, low, byte)
         }
-        Err((job, fault)) => {
-            job.give_up(card, low);
-            Some(fault)
-        }
+        Err((job, fault)) => Err(give_up(job, card, low, fault)),
     }
 }
 
 // Does the deed after someone else sent; with an opened job for all deeds but open itself.
-pub(crate) fn fault_after<M: Array, O: Array>(
-    card: &mut Card<M, O>,
+pub(crate) fn deed_after<C: StoreCard>(
+    card: &mut C,
     before: &[u8],
     low: bool,
     deed: Deed,
     page: &[u8],
-) -> Option<Fault> {
-    if let Deed::Open = deed {
-        send(card, before);
-        return match open(card, low) {
-            Ok(job) => {
-                job.give_up(card, low);
-                None
-            }
-            Err(fault) => Some(fault),
-        };
-    }
-    let job = match open(card, false) {
-        Ok(job) => job,
-        Err(fault) => return Some(fault),
-    };
+) -> Result<(), Fault> {
     match deed {
         Deed::Open => {
-            job.give_up(card, low);
-            None
+            send(card, before);
+            try_open(card, low)
         }
         Deed::Write(row) => {
+            let job = open(card, false)?;
             send(card, before);
-            write_fault(job, card, low, row, page)
+            try_write(job, card, low, row, page)
         }
         Deed::Check(row) => {
+            let job = open(card, false)?;
             send(card, before);
-            check_fault(job, card, low, row, page)
+            try_check(job, card, low, row, page, &mut [0; PAGE])
         }
-        Deed::Seal(byte) => seal_after(job, card, low, byte, before),
+        Deed::Seal(byte) => {
+            let job = open(card, false)?;
+            seal_after(job, card, low, byte, before)
+        }
     }
 }

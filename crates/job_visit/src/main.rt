@@ -4,20 +4,21 @@
 mod conduct;
 mod traffic;
 
-use arrays::array::Array;
+use arrays::array::{Array, PAGE};
 use arrays::dump::Dump;
 use arrays::memory::Memory;
 use bench::calibration::Calibration;
-use bench::compare::Test;
-use card::card::{Card, PAGE};
-use conduct::{End, Order, calibrate, inspect};
+use bench::compare::{Equal, Test};
+use card::card::Card;
+use card::store_card::StoreCard;
+use conduct::{Order, Stopped, calibrate, inspect};
 use deeds::deed::check;
 use faults::fault::Fault;
-use report::words::{part_word, place_word};
-use rules::refusal::Outcome;
+use rules::refusal::Refusal;
 use std::io;
 use traffic::{Attempt, EXCHANGE, HOSTILE};
 
+// The sizes of this program's own card; another program may have others.
 const BLOCKS: usize = 4;
 
 const PAGES: usize = 2;
@@ -47,45 +48,48 @@ const WRONG: Calibration = Calibration {
     span: 50_000,
 };
 
-fn print_outcome(rt: &HostRuntime, name: &str, outcome: Outcome) -> io::Result<()> {
+fn print_outcome<T: Drop>(
+    rt: &HostRuntime,
+    name: &str,
+    outcome: Result<T, Refusal>,
+) -> io::Result<()> {
     match outcome {
-        Outcome::Taken => println!(rt; "  {name}: taken"),
-        Outcome::Refused(refusal) => println!(rt;
-            "  {name}: refused, {} ({})",
-            refusal.number(),
-            part_word(refusal.place())
-        ),
+        Ok(_) => println!(rt; "  {name}: taken"),
+        Err(refusal) => {
+            let (number, place) = (refusal.number(), refusal.place());
+            println!(rt; "  {name}: refused, {number} ({place})")
+        }
     }
 }
 
 fn print_fault(rt: &HostRuntime, fault: Fault) -> io::Result<()> {
-    let (number, place) = (fault.number(), place_word(fault.place()));
+    let (number, place) = (fault.number(), fault.place());
     println!(rt; "  fault {number} ({place})")?;
     let (code, row, column) = (fault.code(), fault.row, fault.column());
     println!(rt; "  code {code}, row {row}, column {column}")
 }
 
-fn print_end(rt: &HostRuntime, end: End) -> io::Result<()> {
-    match end {
-        End::Sealed => println!(rt; "  opened, written, checked, sealed"),
-        End::Closed(fault) => print_fault(rt, fault),
-        End::GivenUp(fault, outcome) => {
-            print_fault(rt, fault)?;
-            print_outcome(rt, "given up", outcome)
-        }
+fn print_end(rt: &HostRuntime, end: Result<(), Stopped>) -> io::Result<()> {
+    let Err(stopped) = end else {
+        return println!(rt; "  opened, written, checked, sealed");
+    };
+    print_fault(rt, stopped.fault)?;
+    match stopped.given_up {
+        Some(outcome) => print_outcome(rt, "given up", outcome),
+        None => Ok(()),
     }
 }
 
-// SR-1 as 05h gives it.
-fn sr1<M: Array, O: Array>(card: &mut Card<M, O>) -> u8 {
+// SR-1 as 05h gives it: one transaction, which the tests of a job make for themselves.
+fn sr1<C: StoreCard>(card: &mut C) -> u8 {
     let mut area = [0];
     let _ = card.transact(&[0x05, 0xa0], false, &mut area);
     area[0]
 }
 
 // Makes the transaction, and the steps that it may wait for if it is taken.
-fn attempt<M: Array, O: Array>(card: &mut Card<M, O>, low: bool, sent: &[u8]) -> Outcome {
-    let (outcome, _) = card.transact(sent, low, &mut []);
+fn attempt<C: StoreCard>(card: &mut C, low: bool, sent: &[u8]) -> Result<usize, Refusal> {
+    let outcome = card.transact(sent, low, &mut []);
     for _ in 0..16 {
         card.step();
     }
@@ -93,19 +97,14 @@ fn attempt<M: Array, O: Array>(card: &mut Card<M, O>, low: bool, sent: &[u8]) ->
 }
 
 // Reads the page at the row, and counts the bytes that are as they were written.
-fn bytes_kept<M: Array, O: Array>(
-    card: &mut Card<M, O>,
-    row: u16,
-    written: &[u8],
-    area: &mut [u8],
-) -> usize {
+fn bytes_kept<C: StoreCard>(card: &mut C, row: u16, written: &[u8], area: &mut [u8]) -> usize {
     let _ = check(card, false, row, written, area);
-    Test::Equal.count(written, area)
+    Equal::count(written, area)
 }
 
-fn print_page<M: Array, O: Array>(
+fn print_page<C: StoreCard>(
     rt: &HostRuntime,
-    card: &mut Card<M, O>,
+    card: &mut C,
     when: &str,
     written: &[u8],
     area: &mut [u8],
@@ -115,22 +114,22 @@ fn print_page<M: Array, O: Array>(
 }
 
 // Makes each attempt and prints what becomes of it.
-fn attempt_all<M: Array, O: Array>(
+fn attempt_all<C: StoreCard>(
     rt: &HostRuntime,
-    card: &mut Card<M, O>,
+    card: &mut C,
     low: bool,
     attempts: &[Attempt],
 ) -> io::Result<()> {
     for named in attempts {
-        print_outcome(rt, named.0, attempt(card, low, named.1))?;
+        print_outcome(rt, named.name, attempt(card, low, named.sent))?;
     }
     Ok(())
 }
 
 // The first visit: the page is written, checked and sealed, and then attacked.
-fn first_visit<M: Array, O: Array>(
+fn first_visit<C: StoreCard>(
     rt: &HostRuntime,
-    card: &mut Card<M, O>,
+    card: &mut C,
     sent: &[u8],
     area: &mut [u8],
 ) -> io::Result<()> {
@@ -153,9 +152,9 @@ fn first_visit<M: Array, O: Array>(
 }
 
 // The second visit finds another calibration than it expects, and is given up.
-fn second_visit<M: Array, O: Array>(
+fn second_visit<C: StoreCard>(
     rt: &HostRuntime,
-    card: &mut Card<M, O>,
+    card: &mut C,
     expected: &[u8],
     area: &mut [u8],
 ) -> io::Result<()> {
@@ -170,9 +169,9 @@ fn second_visit<M: Array, O: Array>(
 }
 
 // Exchanges two addresses, as for a worn block, and reads the page at its new address.
-fn replace_block<M: Array, O: Array>(
+fn replace_block<C: StoreCard>(
     rt: &HostRuntime,
-    card: &mut Card<M, O>,
+    card: &mut C,
     written: &[u8],
     area: &mut [u8],
 ) -> io::Result<()> {
@@ -182,9 +181,9 @@ fn replace_block<M: Array, O: Array>(
     println!(rt; "  row {NEW_ROW}: {equal} of {PAGE} bytes as written")
 }
 
-// Reads the page in the bytes of the main array, as a dump, and prints the calibration that it holds.
+// Reads the page in the bytes of the main array, as a dump, and prints the calibration that it holds, or here that it holds none.
 fn print_dump(rt: &HostRuntime, bytes: &[u8], area: &mut [u8]) -> io::Result<()> {
-    Dump::new(bytes, BLOCKS, PAGES).read(1, 0, area);
+    let _ = Dump::new(bytes, BLOCKS, PAGES).read(1, 0, area);
     println!(rt; "dump of block 1, page 0")?;
     match Calibration::in_page(area) {
         Some(found) => println!(rt; "  zero {}, span {}", found.zero, found.span),
@@ -198,8 +197,8 @@ fn main(rt: HostRuntime) -> anyhow::Result<()> {
     let mut area = [0; PAGE];
     let mut bytes = [0; BYTES];
     let mut otp = [0; OTP_BYTES];
-    GOOD.stamp(&mut good);
-    WRONG.stamp(&mut wrong);
+    GOOD.stamp(&mut good)?;
+    WRONG.stamp(&mut wrong)?;
     println!(rt; "store card, {BLOCKS} blocks of {PAGES} pages, new")?;
     let mut main = Memory::new(&mut bytes, BLOCKS, PAGES);
     main.renew(LIFE);
