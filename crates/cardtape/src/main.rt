@@ -9,6 +9,7 @@ use std::io;
 use std::io::{BufWriter, Read, Write};
 use tape::text::Text;
 
+// The sizes of this program's own card; another program may have others.
 const BLOCKS: usize = 4;
 
 const PAGES: usize = 2;
@@ -41,7 +42,7 @@ fn replay_some<M: Array, O: Array, R: Read, W: Write>(
     output: &mut W,
 ) -> io::Result<bool> {
     let count = input.read(chunk)?;
-    for byte in &chunk[0..count] {
+    for byte in &chunk[..count] {
         print(output, reader.read(*byte))?;
     }
     Ok(count != 0)
@@ -55,6 +56,7 @@ fn replay_all<M: Array, O: Array>(
 ) -> io::Result<()> {
     let mut input = rt.stdin();
     let mut output = BufWriter::new(rt.alloc(), rt.stdout())?;
+    // Counted, since every loop is proved to end, and input need not.
     for _ in 0..u64::MAX {
         if !replay_some(reader, &mut input, chunk, &mut output)? {
             break;

@@ -1,7 +1,7 @@
 use card::card::Card;
 use tape::text::Text;
 
-// A card, and what was read of the next line. Of a long line the first bytes are kept, enough to know that it is no record.
+// A card, and the first bytes of the next line, enough to know whether it is a record. Over any `StoreCard` it would get no proof where it is made.
 #[derive(Drop)]
 pub struct Reader<M, O> {
     pub(crate) card: Card<M, O>,

@@ -1,34 +1,35 @@
 #![tactic(auto)]
 
 // One task at a bench array, from its first step to its last, printed as a report that a technician can read.
-use arrays::array::Array;
+use arrays::array::{Array, PAGE};
 use arrays::dump::Dump;
 use arrays::memory::Memory;
 use bench::calibration::Calibration;
-use bench::compare::Test;
+use bench::compare::{Equal, Risen, Test};
 use bench::steps::{program_and_read, wear_out};
 use bench::words::word;
 use card::card::Card;
+use card::store_card::StoreCard;
 use linked::linked::Linked;
 use links::table::Table;
+use rules::refusal::outcome_number;
 use std::io;
 
+// The sizes of this program's own card; another program may have others.
 const BLOCKS: usize = 4;
 
 const PAGES: usize = 2;
 
 const LIFE: u32 = 3;
 
-const PAGE: usize = 2112;
-
 const BYTES: usize = 16_912;
 
 const OTP_BYTES: usize = 33_796;
 
 // The address whose block is worn out, and the one that it is exchanged with.
-const FIRST: usize = 1;
+const FIRST: u16 = 1;
 
-const SECOND: usize = 2;
+const SECOND: u16 = 2;
 
 // The calibration of the bench, and one that is programmed over it without an erase.
 const GOOD: Calibration = Calibration {
@@ -41,7 +42,7 @@ const HASTY: Calibration = Calibration {
     span: 50_000,
 };
 
-// Programs page 0 of a block and prints what it holds then, beside what it held.
+// Programs page 0 of a block and prints what it holds then, a calibration or here that there is none, beside what it held.
 fn program<A: Array>(
     rt: &HostRuntime,
     array: &mut A,
@@ -57,8 +58,8 @@ fn program<A: Array>(
         Some(found) => println!(rt; "  zero {}, span {}", found.zero, found.span)?,
         None => println!(rt; "  no calibration")?,
     }
-    let equal = Test::Equal.count(sent, read);
-    let risen = Test::Risen.count(held, read);
+    let equal = Equal::count(sent, read);
+    let risen = Risen::count(held, read);
     println!(rt; "  {equal} of {PAGE} bytes as sent; a bit rose in {risen}")
 }
 
@@ -84,10 +85,9 @@ fn exchange<A: Array>(
     first: u16,
     second: u16,
 ) -> io::Result<()> {
-    let done = if array.swap(first, second) {
-        "done"
-    } else {
-        "refused"
+    let done = match array.swap(first, second) {
+        Ok(()) => "done",
+        Err(_) => "refused",
     };
     println!(rt; "swap addresses {first} and {second}: {done}")?;
     let block = array.table.reach(BLOCKS, usize::from(first));
@@ -107,19 +107,14 @@ fn dump(
     println!(rt; "read block {block}, page 0 through a dump: {shown}")?;
     let programmed = word(dump.program(block, 0, sent));
     println!(rt; "program it through the dump: {programmed}")?;
-    let equal = Test::Equal.count(sent, read);
+    let equal = Equal::count(sent, read);
     println!(rt; "{equal} of {PAGE} bytes equal")
 }
 
 // Sends to a card, with /WP high and no area, and prints what becomes of it.
-fn send<M: Array, O: Array>(
-    rt: &HostRuntime,
-    card: &mut Card<M, O>,
-    name: &str,
-    sent: &[u8],
-) -> io::Result<()> {
-    let (outcome, _) = card.transact(sent, false, &mut []);
-    println!(rt; "{name}: outcome {}", outcome.number())
+fn send<C: StoreCard>(rt: &HostRuntime, card: &mut C, name: &str, sent: &[u8]) -> io::Result<()> {
+    let outcome = outcome_number(card.transact(sent, false, &mut []));
+    println!(rt; "{name}: outcome {outcome}")
 }
 
 // Makes a new card over the array, under the law of sealed calibration, and tries to write to its sealed rows.
@@ -147,20 +142,21 @@ fn main(rt: HostRuntime) -> anyhow::Result<()> {
     let mut over = vec![in heap; 0u8; PAGE]?;
     let mut bytes = vec![in heap; 0u8; BYTES]?;
     let mut otp = vec![in heap; 0u8; OTP_BYTES]?;
-    GOOD.stamp(&mut sent);
-    HASTY.stamp(&mut again);
+    GOOD.stamp(&mut sent)?;
+    HASTY.stamp(&mut again)?;
+    let worn = usize::from(FIRST);
     let mut array = Memory::new(&mut bytes, BLOCKS, PAGES);
     array.renew(LIFE);
     let (n, p) = (array.blocks(), array.pages());
     println!(rt; "new array: {n} blocks of {p} pages, life {LIFE} each")?;
-    program(&rt, &mut array, FIRST, &sent, &blank, &mut read)?;
-    program(&rt, &mut array, FIRST, &again, &read, &mut over)?;
-    wear(&rt, &mut array, FIRST, &sent)?;
+    program(&rt, &mut array, worn, &sent, &blank, &mut read)?;
+    program(&rt, &mut array, worn, &again, &read, &mut over)?;
+    wear(&rt, &mut array, worn, &sent)?;
     let mut array = Linked::new(array, Table::new());
-    exchange(&rt, &mut array, FIRST as u16, SECOND as u16)?;
-    program(&rt, &mut array, FIRST, &sent, &blank, &mut over)?;
+    exchange(&rt, &mut array, FIRST, SECOND)?;
+    program(&rt, &mut array, worn, &sent, &blank, &mut over)?;
     let main = Memory::new(&mut bytes, BLOCKS, PAGES);
     seal(&rt, main, Memory::new(&mut otp, 1, 16))?;
-    dump(&rt, &bytes, SECOND, &sent, &mut read)?;
+    dump(&rt, &bytes, usize::from(SECOND), &sent, &mut read)?;
     Ok(())
 }

@@ -1,7 +1,5 @@
 use Rattle.std.proofs.Common.{◌≡◌, ℕ, List, take, Option, ap, ◌∙◌, subst}
-use Rattle.card.specs.View.{view}
 use Rattle.tape.specs.Lines.{Request, request_in}
-use Rattle.tape.specs.Views.{written}
 use Rattle.replay.specs.Replayed.{chip_after_any, text_after_any}
 use Rattle.replay.proofs.Cut.{cut_is_same}
 use Rattle.replay.proofs.lines.replay_kept.Goals as goal
@@ -12,9 +10,9 @@ of_whole P bytes text whole p q h = subst P (ap request_in (p ∙ q) ∙ cut_is_
 
 pub returns : goal.returns
 returns g c =
-    let before = view g.M.Array.meaning g.O.Array.meaning c.args.card.now in
-    let after = view g.M.Array.meaning g.O.Array.meaning c.replay_line.new.card in
+    let before = g.C.StoreCard.chip c.args.card.now in
+    let after = g.C.StoreCard.chip c.replay_line.new.card in
     record {
-      chip = λ whole e. of_whole (λ q. after ≡ chip_after_any before q) c.as_bytes.result.now (written c.args.line.now) whole c.as_bytes.ensures e c.replay_line.ensures.chip;
-      text = λ whole e. of_whole (λ q. written c.replay_line.result ≡ text_after_any before q) c.as_bytes.result.now (written c.args.line.now) whole c.as_bytes.ensures e c.replay_line.ensures.text;
+      chip = λ whole e. of_whole (λ q. after ≡ chip_after_any before q) c.as_bytes.result.now (c.args.line.now) whole c.as_bytes.ensures e c.replay_line.ensures.chip;
+      text = λ whole e. of_whole (λ q. c.replay_line.result ≡ text_after_any before q) c.as_bytes.result.now (c.args.line.now) whole c.as_bytes.ensures e c.replay_line.ensures.text;
     }

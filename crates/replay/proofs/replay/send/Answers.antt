@@ -1,25 +1,41 @@
-use Rattle.std.proofs.Common.{◌≡◌, ℕ, ◌≤◌, List, length, take, ap, ◌∙◌, arith}
+use Rattle.std.proofs.Common.{◌≡◌, ℕ, ◌≤◌, List, length, take, Result, ap, ◌∙◌, arith}
+use Rattle.std.specs.Result.{result_unwrap_or}
 use Rattle.std.proofs.lemmas.List.{take_all}
-use Rattle.rules.specs.declared.refusal.Outcome.{Outcome}
+use Rattle.frames.specs.Frames.{told}
+use Rattle.rules.specs.declared.refusal.Refusal.{Refusal}
 use Rattle.rules.specs.Outcomes.{outcome_number}
-use Rattle.rules.specs.Calls.{Reply, transact}
+use Rattle.rules.specs.Refusals.{outcome}
+use Rattle.rules.specs.Calls.{transact}
+use Rattle.rules.proofs.Answered.{tells_number, tells_driven, driven_fits}
 use Rattle.tape.specs.Answers.{transaction_text}
-use Rattle.card.specs.View.{view}
-use Rattle.replay.specs.Replayed.{reply_text}
 use Rattle.replay.proofs.replay.send.Goals as goal
 
--- The area is not longer than what a text shows of it.
-shown_whole : (o : Outcome) (n d : ℕ) (area t : List ℕ) → length area ≤ 64 → n ≡ outcome_number o → t ≡ transaction_text n d (take 64 area) → t ≡ transaction_text (outcome_number o) d area
-shown_whole o n d area t h e p = p ∙ (ap (λ k. transaction_text k d (take 64 area)) e ∙ ap (transaction_text (outcome_number o) d) (take_all 64 area h))
+pub overflow_cast-driven : goal.overflow_cast-driven
+overflow_cast-driven g c =
+    let before = g.C.StoreCard.chip c.args.card.now in
+    let sent = c.args.sent.now in
+    let n = length c.args.area.now in
+    let o = outcome before c.args.low sent in
+    let is : c.unwrap_or-driven.result ≡ (transact before sent c.args.low n).driven = c.unwrap_or-driven.ensures ∙ ap (λ (a : Result ℕ Refusal). result_unwrap_or a 0) c.transact-answer.ensures.answer ∙ tells_driven before (told sent) o n in
+    let most = driven_fits before (told sent) o n in
+    omega (arith, is, most)
 
-of_reply : (r : Reply) (o : Outcome) (d : ℕ) (area t : List ℕ) → o ≡ r.outcome → d ≡ r.driven → area ≡ r.area → t ≡ transaction_text (outcome_number o) d area → t ≡ reply_text r
-of_reply r o d area t p q s e = e ∙ (ap (λ x. transaction_text (outcome_number x) d area) p ∙ (ap (λ x. transaction_text (outcome_number r.outcome) x area) q ∙ ap (transaction_text (outcome_number r.outcome) r.driven) s))
+-- an area no longer than what a text shows of it
+shown : (n d k e : ℕ) (xs ys text : List ℕ) → n ≡ k → d ≡ e → xs ≡ ys → length xs ≤ 64 → text ≡ transaction_text n d (take 64 xs) → text ≡ transaction_text k e ys
+shown n d k e xs ys text p q r h t =
+    t
+    ∙ ap (transaction_text n d) (take_all 64 xs h ∙ r)
+    ∙ ap (λ m. transaction_text m d ys) p
+    ∙ ap (λ m. transaction_text k m ys) q
 
-pub returns : goal.returns
-returns g c =
-    let told = c.transact-outcome.ensures in
-    let reply = transact (view g.M.Array.meaning g.O.Array.meaning c.args.card.now) c.args.sent.now c.args.low (length c.args.area.now) in
-    record {
-      chip = told.chip;
-      text = of_reply reply c.transact-outcome.result.0 c.transact-outcome.result.1 c.transact-outcome.new.area _ told.outcome told.driven told.area (shown_whole c.transact-outcome.result.0 c.number.result c.transact-outcome.result.1 c.transact-outcome.new.area _ (omega arith) c.number.ensures c.transaction.ensures);
-    }
+pub returns-clause-text : goal.returns-clause-text
+returns-clause-text g c =
+    let before = g.C.StoreCard.chip c.args.card.now in
+    let sent = c.args.sent.now in
+    let n = length c.args.area.now in
+    let o = outcome before c.args.low sent in
+    let e = c.transact-answer.ensures.answer in
+    shown _ _ _ _ c.transact-answer.new.area _ _
+    (c.outcome_number.ensures ∙ ap (λ (a : Result ℕ Refusal). outcome_number a) e ∙ tells_number o _)
+    (c.unwrap_or-driven.ensures ∙ ap (λ (a : Result ℕ Refusal). result_unwrap_or a 0) e ∙ tells_driven before (told sent) o n)
+    c.transact-answer.ensures.area (omega arith) c.transaction.ensures
