@@ -9,7 +9,7 @@ use Rattle.card.specs.declared.card.Card.{Card}
 -- `m` and `o` give the meanings of the main array and of the OTP array
 abbrev pub view : {M O : Type 0} → (M → Store) → (O → Store) → Card M O → Chip
 view m o c = record {
-  lasting = record { main = m c.main.array; otp = o c.otp; links = c.main.table.entries; otp_l = c.locks.otp; sr1_l = c.locks.sr1 };
+  lasting = record { main = m c.main.array; otp = o c.otp; links = c.main.table; otp_l = c.locks.otp; sr1_l = c.locks.sr1 };
   passing = record { sr1 = c.sr1.0; flags = c.flags; buffer = c.buffer; pending = c.pending };
 }
 

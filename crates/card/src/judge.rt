@@ -43,7 +43,7 @@ impl<M: Array, O: Array> Card<M, O> {
 
     // Does it cover the present partner of the address?
     fn seals_partner(&self, address: usize) -> bool
-        ensures { result ≡ partner_sealed (view M.meaning O.meaning self.now) (partner_of (M.meaning self.now.main.array).blocks self.now.main.table.entries address) }
+        ensures { result ≡ partner_sealed (view M.meaning O.meaning self.now) (partner_of (M.meaning self.now.main.array).blocks self.now.main.table address) }
     {
         let partner = self.main.table.partner(self.main.blocks(), address);
         partner.is_some_and(|partner| self.seals(partner))

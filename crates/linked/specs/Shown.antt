@@ -18,10 +18,10 @@ abbrev pub block_count : {A : Type 0} → (A → Store) → Linked A → ℕ
 block_count meaning l = (meaning l.array).blocks
 
 abbrev pub showing : {A : Type 0} → (A → Store) → Linked A → Store
-showing meaning l = shown l.table.entries (meaning l.array)
+showing meaning l = shown l.table (meaning l.array)
 
 abbrev pub reached : {A : Type 0} → (A → Store) → Linked A → ℕ → ℕ
-reached meaning l b = reach (block_count meaning l) l.table.entries b
+reached meaning l b = reach (block_count meaning l) l.table b
 
 -- what a call at block r of an array a is at address b of the linked array: `meaning` gives the stores of arrays of its kind
 pub record Through {Kind : Type 0} (meaning : Kind → Store) (es : List Entry) (a : Kind) (b r : ℕ) : Type 0 where

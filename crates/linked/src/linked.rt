@@ -33,7 +33,7 @@ impl<A: Array> Linked<A> {
 
     // May a swap be done, and why not?
     pub fn allows(&self, first: u16, second: u16) -> Result<(), SwapError>
-        ensures { result ≡ swap_answer (block_count A.Array.meaning self.now) first second self.now.table.entries }
+        ensures { result ≡ swap_answer (block_count A.Array.meaning self.now) first second self.now.table }
     {
         let n = self.size();
         self.table.allows(n, first, second)
@@ -41,11 +41,11 @@ impl<A: Array> Linked<A> {
 
     // Does what a finished swap does, if it may be done.
     pub fn swap(&mut self, first: u16, second: u16) -> Result<(), SwapError>
-        ensures answer { result ≡ swap_answer (block_count A.Array.meaning self.old) first second self.old.table.entries }
-        ensures allowed { is_ok result ≡ may_swap (block_count A.Array.meaning self.old) first second self.old.table.entries }
+        ensures answer { result ≡ swap_answer (block_count A.Array.meaning self.old) first second self.old.table }
+        ensures allowed { is_ok result ≡ may_swap (block_count A.Array.meaning self.old) first second self.old.table }
         ensures array { self.new.array ≡ self.old.array }
-        ensures after { self.new.table.entries ≡ after_swap (block_count A.Array.meaning self.old) first second self.old.table.entries }
-        ensures turned { is_ok result ≡ true → Turned (block_count A.Array.meaning self.old) first second self.old.table.entries self.new.table.entries }
+        ensures after { self.new.table ≡ after_swap (block_count A.Array.meaning self.old) first second self.old.table }
+        ensures turned { is_ok result ≡ true → Turned (block_count A.Array.meaning self.old) first second self.old.table self.new.table }
     {
         let n = self.size();
         self.table.swap(n, first, second)
@@ -63,7 +63,7 @@ impl<A: Array> Linked<A> {
     #[tactic(auto, using(crate::proofs::Showing::through))]
     fn reached(&self, address: usize) -> usize
         ensures block { result ≡ reached A.Array.meaning self.now address }
-        ensures through { Through A.Array.meaning self.now.table.entries self.now.array address result }
+        ensures through { Through A.Array.meaning self.now.table self.now.array address result }
     {
         let n = self.size();
         self.table.reach(n, address)

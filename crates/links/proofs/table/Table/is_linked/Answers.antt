@@ -7,5 +7,5 @@ use Rattle.links.proofs.table.Table.is_linked.Goals as goal
 
 pub returns : goal.returns
 returns c =
-    any_from_yields_List (holds c.args.address) _ _ _ c.any.ensures.ran (YieldsList-from_slice c.args.self.now.entries cc) (λ x b q k. search (rules, tests))
-    ∙ sym (linked_any c.args.address c.args.self.now.entries)
+    any_from_yields_List (holds c.args.address) _ _ _ c.any.ensures.ran (YieldsList-from_slice c.args.self.now cc) (λ x b q k. search (rules, tests))
+    ∙ sym (linked_any c.args.address c.args.self.now)
