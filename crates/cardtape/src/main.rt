@@ -1,9 +1,9 @@
 #![tactic(auto)]
 
 // Replays a tape of calls from standard input on one new card, and prints an answer for each line.
-use arrays::array::Array;
 use arrays::memory::Memory;
 use card::card::Card;
+use card::store_card::StoreCard;
 use replay::reader::Reader;
 use std::io;
 use std::io::{BufWriter, Read, Write};
@@ -35,8 +35,8 @@ fn print<W: Write>(output: &mut W, answer: Option<Text>) -> io::Result<()> {
 }
 
 // Reads some of a tape and replays it, and answers whether it has not ended.
-fn replay_some<M: Array, O: Array, R: Read, W: Write>(
-    reader: &mut Reader<M, O>,
+fn replay_some<C: StoreCard, R: Read, W: Write>(
+    reader: &mut Reader<C>,
     input: &mut R,
     chunk: &mut [u8],
     output: &mut W,
@@ -49,9 +49,9 @@ fn replay_some<M: Array, O: Array, R: Read, W: Write>(
 }
 
 // Replays standard input to its end.
-fn replay_all<M: Array, O: Array>(
+fn replay_all<C: StoreCard>(
     rt: &HostRuntime,
-    reader: &mut Reader<M, O>,
+    reader: &mut Reader<C>,
     chunk: &mut [u8],
 ) -> io::Result<()> {
     let mut input = rt.stdin();

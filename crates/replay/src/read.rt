@@ -1,20 +1,18 @@
 ghost use Rattle.std.specs.Prelude.{◌≡◌};
-ghost use Rattle.card.specs.View.{view};
 ghost use Rattle.grammar.specs.Grammar.{Exact};
 ghost use Rattle.replay.specs.Reading.{Reading, at_start, after_byte, text_after_byte, text_at_end, after_end};
 ghost use Rattle.replay.specs.Shown.{Shows};
 
 use crate::lines::{is_begun, keep_byte, replay_kept};
 use crate::reader::Reader;
-use arrays::array::Array;
-use card::card::Card;
+use card::store_card::StoreCard;
 use grammar::grammar_is_exact;
 use tape::text::Text;
 
-impl<M: Array, O: Array> Reader<M, O> {
+impl<C: StoreCard> Reader<C> {
     // At the start of a tape. Exactly the lines of the grammar will be records.
-    pub fn new(card: Card<M, O>) -> Reader<M, O>
-        ensures start { Shows (view M.meaning O.meaning) result (at_start (view M.meaning O.meaning card)) }
+    pub fn new(card: C) -> Reader<C>
+        ensures start { Shows C.chip result (at_start (C.chip card)) }
         ensures grammar { Exact }
     {
         let _exact = grammar_is_exact();
@@ -26,8 +24,8 @@ impl<M: Array, O: Array> Reader<M, O> {
 
     // The next byte of a tape. A byte 0Ah ends a line, and gets the text of its answer.
     pub fn read(&mut self, byte: u8) -> Option<Text>
-        ensures after { (s : Reading) → Shows (view M.meaning O.meaning) self.old s → Shows (view M.meaning O.meaning) self.new (after_byte s byte) }
-        ensures text { (s : Reading) → Shows (view M.meaning O.meaning) self.old s → result ≡ text_after_byte s byte }
+        ensures after { (s : Reading) → Shows C.chip self.old s → Shows C.chip self.new (after_byte s byte) }
+        ensures text { (s : Reading) → Shows C.chip self.old s → result ≡ text_after_byte s byte }
     {
         if byte != b'\n' {
             keep_byte(&mut self.line, byte);
@@ -40,8 +38,8 @@ impl<M: Array, O: Array> Reader<M, O> {
 
     // The end of the tape: a last line without 0Ah gets its answer too.
     pub fn finish(&mut self) -> Option<Text>
-        ensures text { (s : Reading) → Shows (view M.meaning O.meaning) self.old s → result ≡ text_at_end s }
-        ensures after { (s : Reading) → Shows (view M.meaning O.meaning) self.old s → Shows (view M.meaning O.meaning) self.new (after_end s) }
+        ensures text { (s : Reading) → Shows C.chip self.old s → result ≡ text_at_end s }
+        ensures after { (s : Reading) → Shows C.chip self.old s → Shows C.chip self.new (after_end s) }
     {
         if is_begun(&self.line) {
             return self.read(b'\n');
