@@ -1,6 +1,6 @@
 #![tactic(auto)]
 
-mod answers;
+pub mod answers;
 pub mod hex;
 pub mod parse;
 pub mod record;
