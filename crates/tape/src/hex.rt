@@ -1,4 +1,4 @@
-ghost use Rattle.std.specs.Prelude.{◌≡◌, ◌+◌, ◌*◌, ◌/◌, ◌<◌, min, ◌++◌, length, take, drop, if◌then◌else◌, Some, None};
+ghost use Rattle.std.specs.Prelude.{◌≡◌, ◌+◌, ◌*◌, ◌/◌, ◌<◌, ◌≤◌, min, ◌++◌, length, take, drop, if◌then◌else◌, Some, None};
 ghost use Rattle.tape.specs.Hex.{is_hex, all_hex, hex_value, hex_digit, hex_byte, bytes_in};
 
 // The value of an upper-case hexadecimal digit. The crate hex reads lower case too.
@@ -44,15 +44,23 @@ pub(crate) fn byte_digits(byte: u8) -> [u8; 2]
     [digit(byte / 16), digit(byte % 16)]
 }
 
+// Writes the first `count` bytes that the digits stand for.
+fn decode_first(count: usize, digits: &[u8], bytes: &mut [u8])
+    requires { (count ≤ length digits.now / 2) × (count ≤ length bytes.old) }
+    ensures { bytes.new ≡ take count (bytes_in digits.now) ++ drop count bytes.old }
+{
+    // By index, since no clause says what writes through a zip of `iter_mut` leave.
+    for (i, byte) in bytes[..count].iter_mut().enumerate() {
+        *byte = byte_of(digits[2 * i], digits[2 * i + 1]);
+    }
+}
+
 // Writes the bytes that the digits stand for, as many as there is room for, and answers how many.
 pub fn decode(digits: &[u8], bytes: &mut [u8]) -> usize
     ensures count { result ≡ min (length digits.now / 2) (length bytes.old) }
     ensures after { bytes.new ≡ take result (bytes_in digits.now) ++ drop result bytes.old }
 {
     let count = (digits.len() / 2).min(bytes.len());
-    // By index, since no clause says what writes through a zip of `iter_mut` leave.
-    for (i, byte) in bytes[..count].iter_mut().enumerate() {
-        *byte = byte_of(digits[2 * i], digits[2 * i + 1]);
-    }
+    decode_first(count, digits, bytes);
     count
 }

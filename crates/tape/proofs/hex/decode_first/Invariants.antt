@@ -1,6 +1,6 @@
 use Rattle.std.proofs.Common.{◌≡◌, ◌++◌, take, drop}
 use Rattle.tape.specs.Hex.{bytes_in}
-use Rattle.tape.proofs.hex.decode.Given as goal
+use Rattle.tape.proofs.hex.decode_first.Given as goal
 
 -- The first bytes are decoded, and the others as they were.
 abbrev pub invariant-loop-i : goal.invariant-loop-i

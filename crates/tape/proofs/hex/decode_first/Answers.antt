@@ -3,7 +3,7 @@ use Rattle.std.proofs.lemmas.List.Edits.{paste_more}
 use Rattle.std.proofs.lemmas.List.{drop_all, append-nil, length-take-le}
 use Rattle.tape.specs.Hex.{hex_value, bytes_in}
 use Rattle.tape.proofs.Decoding.{length-bytes_in, byte_in}
-use Rattle.tape.proofs.hex.decode.Goals as goal
+use Rattle.tape.proofs.hex.decode_first.Goals as goal
 
 -- One more byte of xs in front of what is left of ys.
 one_more : (xs ys : List ℕ) (i : ℕ) → i < length xs → i < length ys → set (take i xs ++ drop i ys) i (get_or xs i 0) ≡ take (i + 1) xs ++ drop (i + 1) ys
@@ -21,12 +21,12 @@ finished xs ys items i e p = rw (e, p, drop_all (length ys) ys (le_refl _)) (app
 
 pub loop-i-preserved : goal.loop-i-preserved
 loop-i-preserved c =
-    let long = length-take-le c.min-count.result c.args.bytes.now (omega arith) in
+    let long = length-take-le c.args.count c.args.bytes.now (omega arith) in
     stored _ _ _ _ _ (omega arith) (omega arith) c.loop-i.invariant c.byte_of.ensures
 
-pub returns-clause-after : goal.returns-clause-after
-returns-clause-after c =
-    let room : List ℕ = take c.min-count.result c.args.bytes.now in
-    let long = length-take-le c.min-count.result c.args.bytes.now (omega arith) in
+pub returns : goal.returns
+returns c =
+    let room : List ℕ = take c.args.count c.args.bytes.now in
+    let long = length-take-le c.args.count c.args.bytes.now (omega arith) in
     let whole = finished (bytes_in c.args.digits.now) room c.loop-i.byte-items c.loop-i.i c.loop-i.invariant (omega arith) in
     rw (whole, long) refl
