@@ -1,6 +1,6 @@
 ghost use Rattle.std.specs.Prelude.{◌≡◌, ◌≤◌, length};
 ghost use Rattle.rules.specs.Calls.{transact as transacted};
-ghost use Rattle.tape.specs.Views.{asked, asked_of};
+ghost use Rattle.tape.specs.Views.{asked, asked_of, Fits, FitsOf};
 ghost use Rattle.replay.specs.Replayed.{reply_text, chip_after_request, text_after_request, chip_after_line, text_after_line};
 
 use card::store_card::StoreCard;
@@ -23,6 +23,7 @@ fn send<C: StoreCard>(card: &mut C, sent: &[u8], low: bool, area: &mut [u8]) -> 
 
 // Makes the transaction of a record.
 fn transact<C: StoreCard>(card: &mut C, asked: Transaction<'_>) -> Text
+    requires { FitsOf asked }
     ensures chip { C.chip card.new ≡ chip_after_request (C.chip card.old) (asked_of asked.entry) }
     ensures text { result ≡ text_after_request (C.chip card.old) (asked_of asked.entry) }
 {
@@ -39,6 +40,7 @@ fn transact<C: StoreCard>(card: &mut C, asked: Transaction<'_>) -> Text
 
 // Makes the call of a record, and answers its text.
 fn perform<C: StoreCard>(card: &mut C, record: Record<'_>) -> Text
+    requires { Fits «record» }
     ensures chip { C.chip card.new ≡ chip_after_request (C.chip card.old) (asked «record».entry) }
     ensures text { result ≡ text_after_request (C.chip card.old) (asked «record».entry) }
 {

@@ -1,15 +1,16 @@
-ghost use Rattle.std.specs.Prelude.{◌≡◌, ◌&&◌, ◌==◌, if◌then◌else◌, nat_le, Some, None};
+ghost use Rattle.std.specs.Prelude.{◌≡◌, ◌&&◌, ◌==◌, if◌then◌else◌, nat_le, Some, None, IfSome};
 ghost use Rattle.std.specs.Option.{option_map};
 ghost use Rattle.tape.specs.Hex.{is_digit};
 ghost use Rattle.tape.specs.Lines.{is_level, number_of, are_bytes, is_transaction, transaction_in, request_in};
-ghost use Rattle.tape.specs.Views.{asked, asked_of};
+ghost use Rattle.tape.specs.Views.{asked, asked_of, FitsOf, FitsIfAny};
 
 use crate::hex::are_hex;
 use crate::record::{LONGEST_AREA, MOST_SENT, Record, Transaction};
 
 // The record that the line is, or none.
 pub fn parse(line: &[u8]) -> Option<Record<'_>>
-    ensures { option_map asked result ≡ request_in line.now }
+    ensures asked { option_map asked result ≡ request_in line.now }
+    ensures fits { FitsIfAny result }
 {
     if line == b"ST".as_slice() {
         return Some(Record::Step);
@@ -22,7 +23,8 @@ pub fn parse(line: &[u8]) -> Option<Record<'_>>
 
 // The transaction that the line is, or none.
 fn transaction_in(line: &[u8]) -> Option<Transaction<'_>>
-    ensures { option_map asked_of result ≡ (if is_transaction line.now then Some (transaction_in line.now) else None) }
+    ensures asked { option_map asked_of result ≡ (if is_transaction line.now then Some (transaction_in line.now) else None) }
+    ensures fits { IfSome result (λ t. FitsOf t) }
 {
     let [
         b'T',

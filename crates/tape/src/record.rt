@@ -1,5 +1,3 @@
-ghost use Rattle.std.specs.Prelude.{◌≤◌, length};
-
 // The most bytes that a transaction sends.
 pub const MOST_SENT: usize = 64;
 
@@ -20,6 +18,4 @@ pub struct Transaction<'a> {
     pub low: bool,
     pub area_length: usize,
     pub digits: &'a [u8],
-    ghost area_fits: { area_length ≤ 64 },
-    ghost sent_fit: { length digits.now ≤ 128 },
 }

@@ -26,9 +26,8 @@ returns g c =
     let ds = t.digits.now in
     let sent : List ℕ = take c.decode-count.result c.decode-count.new.bytes in
     let blank : List ℕ = take t.area_length (replicate 64 0) in
-    let sent_is : sent ≡ bytes_in ds = all_decoded ds _ c.decode-count.new.bytes c.decode-count.result t.sent_fit c.decode-count.ensures.count c.decode-count.ensures.after in
-    let fits = t.area_fits in
-    let area_is : length blank ≡ t.area_length = length-take-le t.area_length (replicate 64 0) (omega (arith, fits)) ∙ omega arith in
+    let sent_is : sent ≡ bytes_in ds = all_decoded ds _ c.decode-count.new.bytes c.decode-count.result c.requires.1 c.decode-count.ensures.count c.decode-count.ensures.after in
+    let area_is : length blank ≡ t.area_length = length-take-le t.area_length (replicate 64 0) (omega arith) ∙ omega arith in
     record {
       chip = moved (λ s n. after ≡ (transact before s t.low n).chip) sent (bytes_in ds) (length blank) t.area_length sent_is area_is c.send.ensures.chip;
       text = moved (λ s n. c.send.result ≡ reply_text (transact before s t.low n)) sent (bytes_in ds) (length blank) t.area_length sent_is area_is c.send.ensures.text;

@@ -15,8 +15,8 @@ no_bytes line h =
     let here : are_bytes (drop 8 line) ≡ false = rw rest at h in
     search (and_right, here)
 
-pub returns-in_default : goal.returns-in_default
-returns-in_default c =
+pub returns-in_default-clause-asked : goal.returns-in_default-clause-asked
+returns-in_default-clause-asked c =
     elim c.in_default.branch [
       | in_default-via-then-line-lt8 w ↦ rw (no_head c.args.line.now (λ n t x a b d. grind arith)) refl
       | in_default-via-else-line-lt8+in-84+in-88+in-32+in-32-line-4+in_default-1 w ↦ rw (no_head c.args.line.now (λ n t x a b d. grind arith)) refl
@@ -26,5 +26,5 @@ returns-in_default c =
       | in_default-via-else-line-lt8+in_default-1 w ↦ rw (no_head c.args.line.now (λ n t x a b d. grind arith)) refl
     ]
 
-pub returns-then-not-are_bytes : goal.returns-then-not-are_bytes
-returns-then-not-are_bytes c = rw (no_bytes c.args.line.now (search rules)) refl
+pub returns-then-not-are_bytes-clause-asked : goal.returns-then-not-are_bytes-clause-asked
+returns-then-not-are_bytes-clause-asked c = rw (no_bytes c.args.line.now (search rules)) refl
