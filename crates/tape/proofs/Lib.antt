@@ -1,1 +1,3 @@
 pub mod Decoding
+mod Filling
+mod Writing

@@ -2,3 +2,4 @@ pub mod Hex
 pub mod Lines
 pub mod Views
 pub mod Answers
+pub mod Filled

@@ -1,7 +1,6 @@
 ghost use Rattle.std.specs.Prelude.{◌≡◌, ◌+◌, ◌≤◌, ◌++◌, length, take, decimal};
 ghost use Rattle.tape.specs.Answers.{unknown_text, counts_text, area_text, transaction_text};
 
-use crate::hex::byte_digits;
 use crate::record::LONGEST_AREA;
 use crate::text::Text;
 use itoa::Buffer;
@@ -65,8 +64,6 @@ impl Text {
             return;
         }
         self.push(b" ");
-        for byte in area {
-            self.push(&byte_digits(*byte));
-        }
+        self.push_hex(area);
     }
 }

@@ -1,5 +1,5 @@
 ghost use Rattle.std.specs.Prelude.{◌≡◌, ◌+◌, ◌*◌, ◌/◌, ◌<◌, ◌≤◌, min, ◌++◌, length, take, drop, if◌then◌else◌, Some, None};
-ghost use Rattle.tape.specs.Hex.{is_hex, all_hex, hex_value, hex_digit, hex_byte, bytes_in};
+ghost use Rattle.tape.specs.Hex.{is_hex, all_hex, hex_value, hex_digit, hex_text, bytes_in};
 
 // The value of an upper-case hexadecimal digit. The crate hex reads lower case too.
 fn value(digit: u8) -> Option<u8>
@@ -37,11 +37,15 @@ fn digit(number: u8) -> u8
     }
 }
 
-// The two digits of a byte.
-pub(crate) fn byte_digits(byte: u8) -> [u8; 2]
-    ensures { result ≡ hex_byte byte }
+// Writes two digits for each of the bytes.
+pub(crate) fn encode(bytes: &[u8], digits: &mut [u8])
+    requires { length digits.old ≡ 2 * length bytes.now }
+    ensures { digits.new ≡ hex_text bytes.now }
 {
-    [digit(byte / 16), digit(byte % 16)]
+    for (i, byte) in bytes.iter().enumerate() {
+        digits[2 * i] = digit(byte / 16);
+        digits[2 * i + 1] = digit(byte % 16);
+    }
 }
 
 // Writes the first `count` bytes that the digits stand for.
