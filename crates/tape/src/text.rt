@@ -47,7 +47,8 @@ impl Text {
     }
 
     pub fn as_bytes(&self) -> &[u8]
-        ensures { result.now ≡ self.now }
+        ensures bytes { result.now ≡ self.now }
+        ensures bound { length result.now ≤ 137 }
     {
         &self.bytes[..self.filled]
     }

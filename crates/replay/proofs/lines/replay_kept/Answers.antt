@@ -13,6 +13,6 @@ returns g c =
     let before = g.C.StoreCard.chip c.args.card.now in
     let after = g.C.StoreCard.chip c.replay_line.new.card in
     record {
-      chip = λ whole e. of_whole (λ q. after ≡ chip_after_any before q) c.as_bytes.result.now (c.args.line.now) whole c.as_bytes.ensures e c.replay_line.ensures.chip;
-      text = λ whole e. of_whole (λ q. c.replay_line.result ≡ text_after_any before q) c.as_bytes.result.now (c.args.line.now) whole c.as_bytes.ensures e c.replay_line.ensures.text;
+      chip = λ whole e. of_whole (λ q. after ≡ chip_after_any before q) c.as_bytes.result.now (c.args.line.now) whole c.as_bytes.ensures.bytes e c.replay_line.ensures.chip;
+      text = λ whole e. of_whole (λ q. c.replay_line.result ≡ text_after_any before q) c.as_bytes.result.now (c.args.line.now) whole c.as_bytes.ensures.bytes e c.replay_line.ensures.text;
     }
