@@ -3,7 +3,6 @@ ghost use Rattle.tape.specs.Answers.{unknown_text, counts_text, area_text, trans
 
 use crate::record::LONGEST_AREA;
 use crate::text::Text;
-use itoa::Buffer;
 
 impl Text {
     // The answer to a line that is no record.
@@ -52,7 +51,19 @@ impl Text {
         ensures text { self.new ≡ self.old ++ decimal number }
         ensures bound { length self.new ≤ length self.old + 3 }
     {
-        self.push(Buffer::new().format(number).as_bytes());
+        self.push_digits(number);
+    }
+
+    fn push_digits(&mut self, number: u8)
+        requires { length self.old + length (decimal number) ≤ 137 }
+        ensures { self.new ≡ self.old ++ decimal number }
+    {
+        if number < 10 {
+            self.push_byte(b'0' + number);
+            return;
+        }
+        self.push_digits(number / 10);
+        self.push_byte(b'0' + number % 10);
     }
 
     // The area after a blank, or nothing if it is empty.

@@ -63,7 +63,7 @@ impl Text {
     }
 
     // Adds a byte that there is room for.
-    fn push_byte(&mut self, byte: u8)
+    pub(crate) fn push_byte(&mut self, byte: u8)
         requires { length self.old < 137 }
         ensures { self.new ≡ self.old ++ (byte ∷ []) }
     {
