@@ -56,14 +56,14 @@ fn print_outcome<T: Drop>(
     match outcome {
         Ok(_) => println!(rt; "  {name}: taken"),
         Err(refusal) => {
-            let (number, place) = (refusal.number(), refusal.place());
+            let (number, place) = (refusal.number(), refusal.place().as_str());
             println!(rt; "  {name}: refused, {number} ({place})")
         }
     }
 }
 
 fn print_fault(rt: &HostRuntime, fault: Fault) -> io::Result<()> {
-    let (number, place) = (fault.number(), fault.place());
+    let (number, place) = (fault.number(), fault.place().as_str());
     println!(rt; "  fault {number} ({place})")?;
     let (code, row, column) = (fault.code(), fault.row, fault.column());
     println!(rt; "  code {code}, row {row}, column {column}")
