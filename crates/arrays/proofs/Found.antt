@@ -9,11 +9,11 @@ use Rattle.arrays.specs.Layout.{part, number, at_page, at_life, fits, page_in, l
 use Rattle.arrays.proofs.Places.{Fit, fit, page_ends}
 
 -- N and P of a store that is empty unless something fits
-blocks_if : (t : Bool) (s : Store) → cond t s.blocks 0 ≡ (cond t s nothing).blocks
+pub blocks_if : (t : Bool) (s : Store) → cond t s.blocks 0 ≡ (cond t s nothing).blocks
 blocks_if true s = refl
 blocks_if false s = refl
 
-pages_if : (t : Bool) (s : Store) → cond t s.pages 0 ≡ (cond t s nothing).pages
+pub pages_if : (t : Bool) (s : Store) → cond t s.pages 0 ≡ (cond t s nothing).pages
 pages_if true s = refl
 pages_if false s = refl
 

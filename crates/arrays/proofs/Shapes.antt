@@ -2,10 +2,10 @@
 use Rattle.std.proofs.Common.{◌≡◌, ℕ, ◌+◌, ◌^◌, ◌<◌, ◌≤◌, true, ◌&&◌, ltb, List, [], length, get_or, drop, refl, ap, ◌∙◌, inl, inr, ⊎_elim, arith, length-take}
 use lib.Count.{ones}
 use Rattle.std.proofs.lemmas.List.{get_or-take, get_or-drop, get_or_past}
-use Rattle.std.proofs.lemmas.Bool.{cases_lt, cond-true, cond_both, and_from, lt-ltb}
+use Rattle.std.proofs.lemmas.Bool.{cases_lt, cond-true, cond-false, cond_both, and_from, lt-ltb, le-ltb}
 use Rattle.std.proofs.lemmas.Bool.Decides.{nat_tests}
 use Rattle.arrays.specs.Store.{Shape, Power, nothing}
-use Rattle.arrays.specs.Layout.{part, at_page, fits, page_in, laid, dump_store}
+use Rattle.arrays.specs.Layout.{part, at_page, fits, page_in, life_in, laid, memory_store, dump_store}
 use Rattle.arrays.proofs.Pieces.{length_part}
 use Rattle.arrays.proofs.Places.{fit, page_ends}
 use Rattle.arrays.proofs.Powers.{one_bit}
@@ -44,6 +44,10 @@ module _ (n p : ℕ) (xs : List ℕ) (small : (j : ℕ) → get_or xs j 0 < 256)
             no_page = λ b q h. grind (arith, nat_tests);
             no_life = none;
           }
+
+  pub memory_shape : Shape (memory_store n p xs)
+  unfolding memory_store
+  memory_shape = shape_laid (life_in n xs) (λ b h. cond-false (ltb b n) _ _ (le-ltb b n h))
 
   pub dump_shape : Shape (dump_store n p xs)
   unfolding dump_store

@@ -1,12 +1,8 @@
 -- What is said of all entries, by the words of the library that the chains over them mean.
 use Rattle.std.proofs.Common.{◌≡◌, ℕ, ◌&&◌, ◌||◌, List, [], ◌∷◌, refl}
-use Rattle.std.specs.List.{count_by, list_all, list_any}
-use Rattle.std.proofs.lemmas.List.Recursion.{is_count_by}
+use Rattle.std.specs.List.{list_all, list_any}
 use Rattle.links.specs.declared.entry.Entry.{Entry}
-use Rattle.links.specs.Links.{is_used, used, full, holds, ends, linked, second}
-
-pub used_count : (es : List Entry) → used es ≡ count_by is_used es
-used_count = is_count_by used is_used refl (λ _ _. refl)
+use Rattle.links.specs.Links.{is_used, full, holds, ends, linked, second}
 
 pub full_all : (es : List Entry) → full es ≡ list_all is_used es
 full_all [] = refl

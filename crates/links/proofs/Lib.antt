@@ -1,8 +1,8 @@
 pub mod Placing
-pub mod Finding
 pub mod Bytes
 pub mod Reaching
 pub mod Swapping
 pub mod Turning
 pub mod Inside
 pub mod Counting
+pub mod Room

@@ -1,6 +1,6 @@
 -- What a finished swap makes of a table: it keeps unused entries last and live links apart, and uses one entry more.
 use Rattle.std.proofs.Common.{◌≡◌, ℕ, zero, suc, ◌+◌, ◌<◌, true, false, cond, not, ◌&&◌, ◌||◌, eqb, ltb, List, [], ◌∷◌, get_or, sym, refl, ap, ◌∙◌, arith}
-use Rattle.std.proofs.lemmas.Bool.{or_parts, or_from, and_parts, and_from, not-true, not-false, not_from_false, cond_both, ltb-true, eqb-true, eqb-false, eq-eqb, ne_eqb}
+use Rattle.std.proofs.lemmas.Bool.{both_ways, or_parts, or_from, and_parts, and_from, not-true, not-false, not_from_false, cond_both, ltb-true, eqb-true, eqb-false, eq-eqb, ne_eqb}
 use Rattle.links.specs.declared.entry.Entry.{Entry}
 use Rattle.links.specs.declared.entry.Entry.TheVariants.{Unused, Live, Retired}
 use Rattle.links.specs.Links.{is_used, used, full, unused_last, linked, second, apart, sound, outside, taken, may_swap, retired_if, retire, place, swapped}
@@ -146,6 +146,12 @@ unused_last_place a b (Unused ∷ es) h = none_used es (eqb-true (used es) 0 h)
 unused_last_place a b (Live c d ∷ es) h = unused_last_place a b es h
 unused_last_place a b (Retired c d ∷ es) h = unused_last_place a b es h
 
+pub used_place : (a b : ℕ) (es : List Entry) → full es ≡ false → used (place a b es) ≡ 1 + used es
+used_place a b [] h = absurd (both_ways true h refl)
+used_place a b (Unused ∷ es) h = refl
+used_place a b (Live c d ∷ es) h = ap (λ k. 1 + k) (used_place a b es h)
+used_place a b (Retired c d ∷ es) h = ap (λ k. 1 + k) (used_place a b es h)
+
 -- ---- a swap
 
 -- the two addresses are in no live link once the old one of the first is retired
@@ -159,6 +165,9 @@ pub swapped_sound : (n a b : ℕ) (es : List Entry) → sound es ≡ true → ma
 swapped_sound n a b es h m =
     let last = (and_parts (unused_last es) (apart es) h).0 in
     and_from _ _ (unused_last_place a b (retire a es) (unused_last_retire a es ∙ last)) (swapped_apart n a b es (sound_apart es h) (allowed n a b es m))
+
+pub swapped_used : (a b : ℕ) (es : List Entry) → full es ≡ false → used (swapped a b es) ≡ 1 + used es
+swapped_used a b es h = used_place a b (retire a es) (full_retire a es ∙ h) ∙ ap (λ k. 1 + k) (used_retire a es)
 
 -- a used entry stays used
 retire_stays : (a : ℕ) (es : List Entry) (k : ℕ) → is_used (get_or (retire a es) k Unused) ≡ is_used (get_or es k Unused)

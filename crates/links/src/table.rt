@@ -59,12 +59,13 @@ impl Table {
         partner_among(entries, n, address).unwrap_or(address)
     }
 
-    // The number of used entries.
-    #[tactic(auto, using(crate::proofs::Counting::used_count))]
+    // The number of used entries. The clauses `size` and `sound` say what every table is like.
     pub fn used(&self) -> usize
-        ensures { result ≡ used self.now }
+        ensures count { result ≡ used self.now }
+        ensures size { length self.now ≡ capacity }
+        ensures sound { sound self.now ≡ true }
     {
-        self.entries.iter().filter(|e| e.is_used()).count()
+        count_used(&self.entries)
     }
 
     // Is no entry unused?
@@ -132,11 +133,29 @@ impl Table {
     }
 }
 
-// The other address of the first such link among the entries.
+// How many are used. A loop, since a chain through `filter` took three times as long.
+fn count_used(entries: &[Entry]) -> usize
+    ensures { result ≡ used entries.now }
+{
+    let mut count = 0;
+    for e in entries {
+        if e.is_used() {
+            count += 1;
+        }
+    }
+    count
+}
+
+// The other address of the first such link among the entries. A loop too, since `find_map` took half as long again.
 fn partner_among(entries: &[Entry], n: usize, address: usize) -> Option<usize>
     ensures { result ≡ partner n entries.now address }
 {
-    entries.iter().find_map(|e| e.other(n, address))
+    for e in entries {
+        if let Some(found) = e.other(n, address) {
+            return Some(found);
+        }
+    }
+    None
 }
 
 fn all_used(entries: &[Entry]) -> bool
