@@ -1,4 +1,5 @@
 ghost use Rattle.std.specs.Prelude.{◌≡◌, ℕ, ◌+◌, ◌*◌, ◌<◌, ◌≤◌, length as count, if◌then◌else◌, slice_index};
+ghost use Rattle.arrays.specs.Store.{page_size};
 ghost use Rattle.arrays.specs.Layout.{fits as fitting, at_life, at_page, at_block, number};
 
 use crate::array::PAGE;
@@ -60,7 +61,7 @@ impl Layout {
     pub(crate) fn page_place(self, block: usize, page: usize) -> Range<usize>
         requires { (self.blocks ≤ 1024) × ((self.pages ≤ 64) × ((block < self.blocks) × (page < self.pages))) }
         ensures start { result.start ≡ at_page self.blocks self.pages block page }
-        ensures end { result.end ≡ at_page self.blocks self.pages block page + 2112 }
+        ensures end { result.end ≡ at_page self.blocks self.pages block page + page_size }
     {
         let start = LIFE * self.blocks + PAGE * (block * self.pages + page);
         start..start + PAGE
@@ -70,7 +71,7 @@ impl Layout {
     pub(crate) fn block_place(self, block: usize) -> Range<usize>
         requires { (self.blocks ≤ 1024) × ((self.pages ≤ 64) × (block < self.blocks)) }
         ensures start { result.start ≡ at_block self.blocks self.pages block }
-        ensures end { result.end ≡ at_block self.blocks self.pages block + 2112 * self.pages }
+        ensures end { result.end ≡ at_block self.blocks self.pages block + page_size * self.pages }
     {
         let start = LIFE * self.blocks + PAGE * (block * self.pages);
         start..start + PAGE * self.pages
