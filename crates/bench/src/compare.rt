@@ -13,14 +13,20 @@ pub trait Test {
     final fn count(old: &[u8], new: &[u8]) -> usize
         ensures { result ≡ places_where test old.now new.now }
     {
-        old.iter()
-            .zip(new)
-            .filter(|(old, new)| Self::holds(**old, **new))
-            .count()
+        let both = old.len().min(new.len());
+        let mut count = 0;
+        // By place, as a sum that is made for many places at once; a chain through `filter` branches at each.
+        for (i, old) in old[..both].iter().enumerate() {
+            if Self::holds(*old, new[i]) {
+                count += 1;
+            }
+        }
+        count
     }
 }
 
 // They are equal.
+#[derive(Clone, Copy)]
 pub struct Equal;
 
 impl Test for Equal {
@@ -32,6 +38,7 @@ impl Test for Equal {
 }
 
 // A bit that was 0 is 1.
+#[derive(Clone, Copy)]
 pub struct Risen;
 
 impl Test for Risen {
