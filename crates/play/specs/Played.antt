@@ -1,13 +1,14 @@
 -- A list of calls on one card: the run that they make, and what they answer.
-use Rattle.std.specs.Prelude.{◌≡◌, ℕ, List, [], ◌∷◌, length, Ok, Err}
+use Rattle.std.specs.Prelude.{◌≡◌, ℕ, List, [], ◌∷◌, length, Ok, Err, Result}
 use Rattle.arrays.specs.Store.{Store}
 use Rattle.rules.specs.Chip.{Chip}
-use Rattle.rules.specs.Outcomes.{outcome_number}
+use Rattle.rules.specs.declared.refusal.Refusal.{Refusal}
+use Rattle.rules.specs.Outcomes.{refusal_number}
 use Rattle.rules.specs.Calls.{transact, answer, step, power_cycle, new_card}
 use Rattle.rules.specs.Law as law
 use Rattle.rules.specs.Law.{Moment, Run, transaction, one_step, power_cycled, next, new}
 use Rattle.play.specs.declared.call.Answer.{Answer}
-use Rattle.play.specs.declared.call.Answer.TheVariants.{Sent, Left, Powered}
+use Rattle.play.specs.declared.call.Answer.TheVariants.{Driven, Refused, Left, Powered}
 use Rattle.play.specs.declared.call.Call.{Call}
 use Rattle.play.specs.declared.call.Call.TheVariants.{Transaction, Step, PowerCycle}
 
@@ -17,22 +18,28 @@ ruled n (Transaction sent low) = transaction sent.now low n
 ruled n Step = one_step
 ruled n PowerCycle = power_cycled
 
--- what a call answers: the count of driven bytes or the refusal, the steps left, or that power came back
+-- what a transaction answers: the count of driven bytes, or the refusal
+abbrev pub sent_answer : Result ℕ Refusal → Answer
+sent_answer (Ok driven) = Driven driven
+sent_answer (Err refusal) = Refused refusal
+
+-- what a call answers: that of a transaction, the steps left, or that power came back
 abbrev pub answer_to : Chip → ℕ → Call → Answer
-answer_to c n (Transaction sent low) = Sent (answer (transact c sent.now low n))
+answer_to c n (Transaction sent low) = sent_answer (answer (transact c sent.now low n))
 answer_to c n Step = Left (step c).left
 answer_to c n PowerCycle = Powered
 
 -- an answer as a number: the outcome's, the steps left, or 0
 abbrev pub number_of : Answer → ℕ
-number_of (Sent outcome) = outcome_number outcome
+number_of (Driven driven) = 0
+number_of (Refused refusal) = refusal_number refusal
 number_of (Left left) = left
 number_of Powered = 0
 
 -- and the count of driven bytes: nothing is driven by a refused transaction, a step and a power cycle
 abbrev pub driven_of : Answer → ℕ
-driven_of (Sent (Ok driven)) = driven
-driven_of (Sent (Err refusal)) = 0
+driven_of (Driven driven) = driven
+driven_of (Refused refusal) = 0
 driven_of (Left left) = 0
 driven_of Powered = 0
 

@@ -1,7 +1,7 @@
 ghost use Rattle.std.specs.Prelude.{◌≡◌};
-ghost use Rattle.play.specs.Played.{number_of, driven_of};
+ghost use Rattle.play.specs.Played.{sent_answer, number_of, driven_of};
 
-use rules::refusal::{Refusal, outcome_number};
+use rules::refusal::Refusal;
 
 // A call of a card, as data, so that contracts hold of lists of them: a transaction with its sent bytes and whether /WP is low, a step, or a power cycle.
 #[derive(Clone, Copy)]
@@ -11,15 +11,28 @@ pub enum Call<'a> {
     PowerCycle,
 }
 
-// What a call answers.
+// What a call answers. No `Result` inside: its tag beside that of the enum would make each entry of a log half as long again.
 #[derive(Clone, Copy, PartialEq, Eq, Debug)]
 pub enum Answer {
-    // a transaction: the count of driven bytes, or why it is refused
-    Sent(Result<usize, Refusal>),
+    // a taken transaction: the count of driven bytes
+    Driven(usize),
+    // a refused one: why
+    Refused(Refusal),
     // a step: the steps left
     Left(u8),
     // a power cycle
     Powered,
+}
+
+impl From<Result<usize, Refusal>> for Answer {
+    ghost from_gives = { λ sent answer. answer ≡ sent_answer sent };
+
+    fn from(sent: Result<usize, Refusal>) -> Answer {
+        match sent {
+            Ok(driven) => Answer::Driven(driven),
+            Err(refusal) => Answer::Refused(refusal),
+        }
+    }
 }
 
 impl Answer {
@@ -28,9 +41,9 @@ impl Answer {
         ensures { result ≡ number_of self }
     {
         match self {
-            Answer::Sent(outcome) => outcome_number(outcome),
+            Answer::Driven(_) | Answer::Powered => 0,
+            Answer::Refused(refusal) => refusal.number(),
             Answer::Left(left) => left,
-            Answer::Powered => 0,
         }
     }
 
@@ -39,8 +52,8 @@ impl Answer {
         ensures { result ≡ driven_of self }
     {
         match self {
-            Answer::Sent(Ok(driven)) => driven,
-            Answer::Sent(Err(_)) | Answer::Left(_) | Answer::Powered => 0,
+            Answer::Driven(driven) => driven,
+            Answer::Refused(_) | Answer::Left(_) | Answer::Powered => 0,
         }
     }
 }

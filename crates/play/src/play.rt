@@ -20,7 +20,7 @@ fn make<C: StoreCard>(card: &mut C, call: Call<'_>, area: &mut [u8]) -> Answer
     ensures area { area.new ≡ area_after (C.chip card.old) call.entry area.old }
 {
     match call {
-        Call::Transaction { sent, low } => Answer::Sent(card.transact(sent, low, area)),
+        Call::Transaction { sent, low } => Answer::from(card.transact(sent, low, area)),
         Call::Step => Answer::Left(card.step()),
         Call::PowerCycle => {
             card.power_cycle();

@@ -27,9 +27,9 @@ const CALLS: [Call<'static>; 5] = [
 ];
 
 const ANSWERS: [Answer; 5] = [
-    Sent(Ok(3)),
-    Sent(Err(Refusal::LatchClear)),
-    Sent(Ok(0)),
+    Driven(3),
+    Refused(Refusal::LatchClear),
+    Driven(0),
     Left(0),
     Powered,
 ];
