@@ -54,6 +54,7 @@ impl Text {
         self.push_digits(number);
     }
 
+    // Its digits, by hand: a crate that made them would be one more to trust.
     fn push_digits(&mut self, number: u8)
         requires { length self.old + length (decimal number) ≤ 137 }
         ensures { self.new ≡ self.old ++ decimal number }

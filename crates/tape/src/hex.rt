@@ -42,6 +42,7 @@ pub(crate) fn encode(bytes: &[u8], digits: &mut [u8])
     requires { length digits.old ≡ 2 * length bytes.now }
     ensures { digits.new ≡ hex_text bytes.now }
 {
+    // By index, since no clause says what writes through `chunks_exact_mut` leave.
     for (i, byte) in bytes.iter().enumerate() {
         digits[2 * i] = digit(byte / 16);
         digits[2 * i + 1] = digit(byte % 16);
