@@ -1,4 +1,5 @@
 pub mod Placing
+pub mod Finding
 pub mod Bytes
 pub mod Reaching
 pub mod Swapping
